@@ -1,0 +1,56 @@
+-- A picture written back and read again is the picture, on the floor. The laws of a loop that writes a picture cell by cell.
+use Prim.Native.Nat.{ℕ, zero, suc, _+_, _≤_, _<_}
+use mathlib.Core.Path.{_≡_, _∙_, refl, sym, ap}
+use mathlib.Core.Bool.{Bool, true, false}
+use mathlib.Core.List.{List}
+use native.Mathlib.Omega.{arith}
+use lib.Dec.{eqb}
+use lib.ListN.{length, getD, set}
+use lib.Seq.{ext-getD, getD-set-same, getD-set-other}
+use borrow.Author.Count.{below-none, below-more}
+use Rattle.floor.specs.Floor.{tabulate, byte, blocked, valueAt}
+
+pub length-tabulate : (n : ℕ) (p : ℕ → ℕ) → length (tabulate n p) ≡ n
+unfolding tabulate
+length-tabulate zero p = refl
+length-tabulate (suc n) p = ap suc (length-tabulate n (λ x. p (suc x)))
+
+pub value-tabulate : (n : ℕ) (p : ℕ → ℕ) (x : ℕ) → x < n → valueAt (tabulate n p) x ≡ p x
+unfolding tabulate valueAt
+value-tabulate zero p x lt = absurd (omega arith)
+value-tabulate (suc n) p zero lt = refl
+value-tabulate (suc n) p (suc x) lt = value-tabulate n (λ y. p (suc y)) x (omega arith)
+
+byte-is : (b : Bool) → eqb (byte b) 1 ≡ b
+unfolding byte
+byte-is true = refl
+byte-is false = refl
+
+pub blocked-tabulate : (n : ℕ) (p : ℕ → Bool) (x : ℕ) → x < n → blocked (tabulate n (λ y. byte (p y))) x ≡ p x
+unfolding blocked
+blocked-tabulate n p x lt = rw (value-tabulate n (λ y. byte (p y)) x lt) (byte-is (p x))
+
+-- the list l shows the picture p at every cell below i
+unfoldable pub Filled : (ℕ → ℕ) → ℕ → List ℕ → Type 0
+Filled p i l = (x : ℕ) → x < i → valueAt l x ≡ p x
+
+pub filled-none : (p : ℕ → ℕ) (l : List ℕ) → Filled p 0 l
+unfolding Filled
+filled-none p l = below-none (λ x. valueAt l x ≡ p x)
+
+pub filled-more : (p : ℕ → ℕ) (i v : ℕ) (l : List ℕ) → i < length l → v ≡ p i → Filled p i l → Filled p (i + 1) (set l i v)
+unfolding Filled valueAt
+filled-more p i v l lt e h = below-more (λ x. getD (set l i v) x 0 ≡ p x) i
+    (λ x b. getD-set-other l i x v 0 (omega arith) ∙ h x b)
+    (getD-set-same l i v 0 lt ∙ e)
+
+-- a list that shows the picture at each of its cells is the picture written back
+pub filled-all : (p : ℕ → ℕ) (n i : ℕ) (l : List ℕ) → length l ≡ n → n ≤ i → Filled p i l → l ≡ tabulate n p
+unfolding Filled valueAt
+filled-all p n i l e le h = ext-getD 0 l (tabulate n p) (e ∙ sym (length-tabulate n p))
+    (λ x lt. h x (omega arith) ∙ sym (value-tabulate n p x (omega arith)))
+
+-- pictures that agree on the floor are written back alike
+pub tabulate-same : (n : ℕ) (p q : ℕ → ℕ) → ((x : ℕ) → x < n → p x ≡ q x) → tabulate n p ≡ tabulate n q
+unfolding Filled
+tabulate-same n p q e = filled-all q n n (tabulate n p) (length-tabulate n p) (omega arith) (λ x lt. value-tabulate n p x lt ∙ e x lt)
