@@ -1,5 +1,4 @@
--- Document 01, "The floor": sizes, cells, the Manhattan distance, which cells share a side, the four headings, lists read as
--- pictures; how refusals are numbered; and the two entries that need nothing but the floor: preparing, and the required figure.
+-- Document 01, "The floor", with lists read as pictures, how refusals are numbered, preparing, and the required figure
 use Prim.Native.Nat.{ℕ, zero, suc, _+_, _-_, _*_, _/_, _%_}
 use mathlib.Core.{Path._≡_, Bool.Bool, Bool.true, Bool.false, Bool._&&_, List.List, List.[], List._∷_}
 use lib.{Dec.ltb, Dec.leb, Dec.eqb, ListN.length, ListN.getD}
@@ -50,8 +49,7 @@ unfoldable pub blocked : List ℕ → ℕ → Bool
 blocked l x = eqb (valueAt l x) 1
 
 unfoldable pub byte : Bool → ℕ
-byte false = 0
-byte true = 1
+byte b = elim b [ false ↦ 0 | true ↦ 1 ]
 
 -- tests in the table's order, each with its refusal: the number of the first that does not hold, or 0, accepted
 unfoldable pub refusal : List (ℕ × Bool) → ℕ
