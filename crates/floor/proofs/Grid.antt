@@ -16,7 +16,7 @@ pub record Sides (f : Floor) : Type 0 where
   pub some-height : 0 < f .height
   pub height-most : f .height ≤ 64
 
-up-some : (m x : ℕ) → upTo m x ≡ true → 0 < x
+pub up-some : (m x : ℕ) → upTo m x ≡ true → 0 < x
 unfolding upTo
 up-some m x e = ltb-true 0 x (and-1 _ (leb x m) e)
 

@@ -1,0 +1,20 @@
+-- The proof of demand 3.
+pub mod Soundness
+pub mod Routes
+pub mod Short
+pub mod Picks
+pub mod Invariant
+pub mod Seeks
+pub mod Lifted
+pub mod Raise
+pub mod Cut
+pub mod Senses
+pub mod Drives
+pub mod Ahead
+pub mod Sums
+pub mod Legs
+pub mod Accepts
+pub mod Courses
+pub mod Sequences
+pub mod Walks
+pub mod Demand3
