@@ -49,8 +49,3 @@ pub filled-all : (p : ℕ → ℕ) (n i : ℕ) (l : List ℕ) → length l ≡ n
 unfolding Filled valueAt
 filled-all p n i l e le h = ext-getD 0 l (tabulate n p) (e ∙ sym (length-tabulate n p))
     (λ x lt. h x (omega arith) ∙ sym (value-tabulate n p x (omega arith)))
-
--- pictures that agree on the floor are written back alike
-pub tabulate-same : (n : ℕ) (p q : ℕ → ℕ) → ((x : ℕ) → x < n → p x ≡ q x) → tabulate n p ≡ tabulate n q
-unfolding Filled
-tabulate-same n p q e = filled-all q n n (tabulate n p) (length-tabulate n p) (omega arith) (λ x lt. value-tabulate n p x lt ∙ e x lt)

@@ -1,6 +1,6 @@
 -- What the two entries promise allows one outcome alone.
 use Prim.Native.Nat.{ℕ}
-use mathlib.Core.Path.{_≡_, _∙_, refl, sym, ap}
+use mathlib.Core.Path.{_≡_, _∙_, sym, ap}
 use mathlib.Core.List.{List}
 use Rattle.floor.specs.Floor.{Floor, Figure, Moves, Refused, PreparePromise, RequiredPromise, told}
 

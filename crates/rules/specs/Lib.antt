@@ -5,5 +5,4 @@ pub mod Walk
 pub mod Request
 pub mod Record
 pub mod Printer
-pub mod Promise
 pub mod Table

@@ -1,6 +1,6 @@
 -- Document 01, "Trip records": the layout, the rules, the writer, and the reader's count and reading by number.
 use Prim.Native.Nat.{ℕ, zero, suc, _+_, _*_, _/_, _%_}
-use mathlib.Core.{Bool.Bool, Bool.true, Bool.false, Bool.not, Bool._&&_, Bool._||_, List.List, List.[], List._∷_, List._++_}
+use mathlib.Core.{Bool.Bool, Bool.true, Bool.not, Bool._&&_, Bool._||_, List.List, List.[], List._∷_, List._++_}
 use lib.{Dec.ltb, Dec.leb, Dec.eqb, ListN.length, ListN.getD}
 use Rattle.floor.specs.{Floor.upTo, Floor.refusal, Floor.ifAccepted}
 

@@ -1,6 +1,6 @@
 -- Document 01, "Endings and refusals": what a leg and a walk are given, when they refuse, what they answer and what they leave.
 use Prim.Native.Nat.{ℕ, zero, suc}
-use mathlib.Core.{Bool.Bool, Bool.true, Bool.false, Bool.not, Bool._&&_, List.List, List.[], List._∷_, List._++_, List.map}
+use mathlib.Core.{Bool.Bool, Bool.not, Bool._&&_, List.List, List.[], List._∷_, List._++_, List.map}
 use lib.{Dec.ltb, Dec.leb, Dec.eqb, ListN.length, ListN.drop}
 use Rattle.floor.specs.{declared.Floor.Floor, Floor.upTo, Floor.sizesOk, Floor.cells, Floor.blocked, Floor.valueAt, Floor.refusal}
 use Rattle.rules.specs.{Sound.every, Sound.within, Sound.sound, Leg.Ending, Leg.Arrived, Leg.CutOff, Leg.Spent, Leg.UnderWay, Leg.Leg, Leg.Stand, Leg.Setting, Leg.legFrom, Leg.left, Walk.Walk, Walk.trailOf, Walk.openedIn, Walk.walk}

@@ -1,1 +1,1 @@
-// No code: specs/ holds the definitions of document 01 and the promise of demand 3, proofs/ the proof of that promise.
+// No code: specs/ holds the definitions of document 01, and the table of cases that tests them.

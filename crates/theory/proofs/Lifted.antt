@@ -1,14 +1,15 @@
 -- What the facts about one leg ask of the new estimates, whatever the update that gives them.
 use Prim.Native.Nat.{ℕ, zero, suc, _+_, _≤_, _<_}
-use mathlib.Core.Path.{_≡_, _∙_, refl, sym, ap, subst}
-use mathlib.Core.Bool.{Bool, true, false}
+use mathlib.Core.Path.{_≡_, _∙_, ap}
+use mathlib.Core.Bool.{Bool, true}
 use native.Mathlib.Omega.{arith}
 use Rattle.floor.specs.declared.Floor.{Floor}
 use Rattle.floor.specs.Floor.{cells}
-use Rattle.rules.proofs.Soundness.{Sound}
-use Rattle.rules.specs.Search.{Reached, Search}
-use Rattle.rules.proofs.Picks.{Least}
-use Rattle.rules.proofs.Seeks.{Sought}
+use Rattle.theory.proofs.Soundness.{Sound}
+use Rattle.rules.specs.Search.{Search}
+use Rattle.floor.specs.declared.Distance.the-variants.{Reached}
+use Rattle.theory.proofs.Picks.{Least}
+use Rattle.theory.proofs.Seeks.{Sought}
 
 -- k steps back from t along the parents
 unfoldable pub ancestor : (ℕ → ℕ) → ℕ → ℕ → ℕ

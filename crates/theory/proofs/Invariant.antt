@@ -1,18 +1,20 @@
 -- The invariant of the search over sound estimates, kept by opening the cell that the search takes.
-use Prim.Native.Nat.{ℕ, zero, suc, _+_, _≤_, _<_}
+use Prim.Native.Nat.{ℕ, suc, _+_, _≤_, _<_}
 use mathlib.Core.Path.{_≡_, _∙_, refl, sym, ap, subst}
 use mathlib.Core.Logic.{_⊎_, inl, inr}
-use mathlib.Core.Bool.{Bool, true, false, not, _&&_, _||_}
+use mathlib.Core.Bool.{Bool, true, false, not, _&&_}
 use native.Mathlib.Omega.{arith}
-use lib.Dec.{ltb, eqb}
+use lib.Dec.{eqb}
 use borrow.Author.Tests.{ltb-true, ltb-false, eqb-true, eqb-false, eq-eqb, ne-eqb}
 use Rattle.floor.specs.declared.Floor.{Floor}
 use Rattle.floor.specs.Floor.{cells, beside}
-use Rattle.rules.proofs.Soundness.{Sound}
-use Rattle.rules.specs.Search.{Distance, Unreached, Reached, Search, falls, joins, opening}
+use Rattle.theory.proofs.Soundness.{Sound}
+use Rattle.rules.specs.Search.{Search, falls, joins, opening}
+use Rattle.floor.specs.declared.Distance.{Distance}
+use Rattle.floor.specs.declared.Distance.the-variants.{Unreached, Reached}
 use Rattle.floor.proofs.Tools.{both, clash, and-1, and-2, or-cases, or-1, or-2, not-t, refute}
 use Rattle.floor.proofs.Grid.{beside-right}
-use Rattle.rules.proofs.Picks.{Least, same}
+use Rattle.theory.proofs.Picks.{Least, same}
 
 pub record Inv (f : Floor) (known : ℕ → Bool) (est : ℕ → ℕ) (cart : ℕ) (s : Search) : Type 0 where
   -- opened and frontier cells are reached, are not both, and are all the reached cells

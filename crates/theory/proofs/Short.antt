@@ -1,7 +1,7 @@
 -- Where there is an open route, there is one of fewer moves than the floor has cells: what comes before the last visit to its first cell is left out,
 -- the cell is taken off the floor, and so on.
 use Prim.Native.Nat.{ℕ, zero, suc, _+_, _≤_, _<_}
-use mathlib.Core.Path.{_≡_, _∙_, refl, sym, ap, subst}
+use mathlib.Core.Path.{_≡_, _∙_, refl, sym, subst}
 use mathlib.Core.Logic.{_⊎_, inl, inr}
 use mathlib.Core.Bool.{Bool, true, false, _||_}
 use native.Mathlib.Omega.{arith}
@@ -9,10 +9,10 @@ use lib.Dec.{eqb}
 use borrow.Author.Tests.{eqb-true, eqb-false, eq-eqb, ne-eqb}
 use Rattle.floor.specs.declared.Floor.{Floor}
 use Rattle.floor.specs.Floor.{cells, beside}
 use Rattle.rules.specs.Sound.{Route, here, step}
 use Rattle.floor.proofs.Tools.{both, clash, or-1, or-f2}
 use Rattle.floor.proofs.Grid.{beside-right}
-use Rattle.rules.proofs.Routes.{route-open}
+use Rattle.theory.proofs.Routes.{route-open}
 
 -- the plan with a blocked as well
 block : ℕ → (ℕ → Bool) → ℕ → Bool

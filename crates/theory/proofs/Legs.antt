@@ -1,6 +1,6 @@
 -- One leg: demand 3 for a single accepted leg, whatever its manner, as long as sensing and update are fit for it.
 use Prim.Native.Nat.{ℕ, zero, suc, _+_, _-_, _≤_, _<_}
-use mathlib.Core.Path.{_≡_, _∙_, refl, sym, subst}
+use mathlib.Core.Path.{_≡_, refl, subst}
 use mathlib.Core.Bool.{Bool, true, false}
 use mathlib.Core.List.{List, []}
 use native.Mathlib.Omega.{arith}
@@ -8,21 +8,23 @@ use lib.Dec.{eqb, ltb}
 use lib.ListN.{length}
 use borrow.Author.Tests.{ltb-true, ltb-false, eqb-true, eqb-false}
 use Rattle.floor.specs.declared.Floor.{Floor}
-use Rattle.floor.specs.Floor.{cells, beside}
+use Rattle.floor.specs.Floor.{cells}
 use Rattle.floor.proofs.Grid.{beside-right}
 use Rattle.rules.specs.Sound.{Route, here, step}
 use Rattle.rules.specs.Search.{Choice, Nothing, Take, Search, start, pick, Found, seek}
-use Rattle.rules.specs.Leg.{Ending, Arrived, CutOff, Spent, UnderWay, Manner, route, Drive, drive, last, Leg, ended, stayed, driven, followed, leg}
-use Rattle.rules.specs.Promise.{others}
-use Rattle.rules.proofs.Soundness.{Sound, Within, NoRoute, sound-same}
-use Rattle.rules.proofs.Picks.{Least, Best, pick-best}
-use Rattle.rules.proofs.Seeks.{Sought, sought, seek-count}
-use Rattle.rules.proofs.Lifted.{Lifted, Lifts}
-use Rattle.rules.proofs.Senses.{Sensed, Senses}
-use Rattle.rules.proofs.Cut.{empty-cut, far-cut}
-use Rattle.rules.proofs.Drives.{Drove, drove, drives-on, drives-short}
-use Rattle.rules.proofs.Ahead.{line, unbarred, some-way}
-use Rattle.rules.proofs.Sums.{climbs}
+use Rattle.rules.specs.Leg.{Manner, route, Drive, drive, last, Leg, ended, stayed, driven, followed, leg}
+use Rattle.floor.specs.declared.Ending.{Ending}
+use Rattle.floor.specs.declared.Ending.the-variants.{Arrived, CutOff, Spent, UnderWay}
+use Rattle.theory.specs.Promise.{others}
+use Rattle.theory.proofs.Soundness.{Sound, Within, NoRoute, sound-same}
+use Rattle.theory.proofs.Picks.{Least, Best, pick-best}
+use Rattle.theory.proofs.Seeks.{Sought, sought, seek-count}
+use Rattle.theory.proofs.Lifted.{Lifted, Lifts}
+use Rattle.theory.proofs.Senses.{Sensed, Senses}
+use Rattle.theory.proofs.Cut.{empty-cut, far-cut}
+use Rattle.theory.proofs.Drives.{Drove, drove, drives-on, drives-short}
+use Rattle.theory.proofs.Ahead.{line, unbarred, some-way}
+use Rattle.theory.proofs.Sums.{climbs}
 
 -- a manner whose sensing and update are as the facts below ask; they ask nothing else of it
 pub record Fit (f : Floor) (plan : ℕ → Bool) (m : Manner) : Type 0 where

@@ -1,17 +1,13 @@
 -- What the facts about one leg ask of sensing: it only adds, it adds only what the plan has, and after it the cells that adjoin the cart are right.
 -- Sensing the neighbours is such.
-use Prim.Native.Nat.{ℕ, zero, suc, _+_, _-_, _*_, _/_, _%_, _≤_, _<_}
-use mathlib.Core.Path.{_≡_, _∙_, refl, sym, ap, ap₂, subst}
-use mathlib.Core.Logic.{_⊎_, inl, inr}
+use Prim.Native.Nat.{ℕ}
+use mathlib.Core.Path.{_≡_}
+use mathlib.Core.Logic.{inl, inr}
 use mathlib.Core.Bool.{Bool, true, false, _&&_, _||_}
-use native.Mathlib.Omega.{arith}
-use native.Mathlib.Nat.{div-add-mod'}
-use lib.Dec.{ltb, leb, eqb}
-use borrow.Author.Tests.{le-leb, lt-leb, ne-eqb, lt-ltb}
 use Rattle.floor.specs.declared.Floor.{Floor}
-use Rattle.floor.specs.Floor.{cells, beside}
+use Rattle.floor.specs.Floor.{beside}
 use Rattle.rules.specs.Leg.{sense}
-use Rattle.rules.proofs.Soundness.{Within}
+use Rattle.theory.proofs.Soundness.{Within}
 use Rattle.floor.proofs.Tools.{clash, refute, and-2, and-f, or-cases, or-f1, or-f2}
 
 -- the cell a has been sensed from: what adjoins it and is not known blocked is open

@@ -2,8 +2,8 @@
 use Prim.Native.Nat.{ℕ, zero, suc, _+_, _-_, _*_, _≤_, _<_}
 use mathlib.Core.{Path._≡_, Logic._↔_, Bool.Bool, Bool.true, Bool.false, Bool._||_, List.List, List.[]}
 use lib.{Dec.eqb, ListN.length}
-use Rattle.floor.specs.{declared.Floor.Floor, Floor.sizesOk, Floor.cells, Floor.tabulate, Floor.byte, Floor.blocked, Floor.valueAt, Floor.prepared}
-use Rattle.rules.specs.{Sound.Route, Sound.within, Sound.sound, Leg.Arrived, Leg.CutOff, Leg.Spent, Leg.UnderWay, Leg.Leg, Leg.Stand, Leg.Setting, Leg.left, Walk.Walk, Walk.trailOf, Request.Request, Request.settingOk, Request.legRefusal, Request.walkRefusal, Request.legOf, Request.walkOf}
+use Rattle.floor.specs.{declared.Floor.Floor, declared.Ending.the-variants.Arrived, declared.Ending.the-variants.CutOff, declared.Ending.the-variants.Spent, declared.Ending.the-variants.UnderWay, Floor.sizesOk, Floor.cells, Floor.tabulate, Floor.byte, Floor.blocked, Floor.valueAt, Floor.prepared}
+use Rattle.rules.specs.{Sound.Route, Sound.within, Sound.sound, Leg.Leg, Leg.Stand, Leg.Setting, Leg.left, Walk.Walk, Walk.trailOf, Request.Request, Request.settingOk, Request.legRefusal, Request.walkRefusal, Request.legOf, Request.walkOf}
 
 -- before each leg the known map may gain cells, as from another cart
 unfoldable pub gained : Floor → (ℕ → Bool) → Stand → Stand

@@ -1,18 +1,17 @@
 -- The moves of a leg: they are an open route, each of them takes one off the new estimate under the cart, and the known map stays within the plan.
-use Prim.Native.Nat.{ℕ, zero, suc, _+_, _-_, _≤_, _<_}
-use mathlib.Core.Path.{_≡_, _∙_, refl, sym, ap, subst}
-use mathlib.Core.Logic.{_⊎_, inl, inr}
-use mathlib.Core.Bool.{Bool, true, false, _&&_, _||_}
+use Prim.Native.Nat.{ℕ, zero, suc, _+_, _≤_, _<_}
+use mathlib.Core.Path.{_≡_, refl}
+use mathlib.Core.Bool.{Bool, true, false}
 use mathlib.Core.List.{List, [], _∷_}
 use native.Mathlib.Omega.{arith}
 use lib.ListN.{length}
 use Rattle.floor.specs.declared.Floor.{Floor}
-use Rattle.floor.specs.Floor.{cells, beside}
-use Rattle.rules.proofs.Soundness.{Within}
+use Rattle.floor.specs.Floor.{beside}
+use Rattle.theory.proofs.Soundness.{Within}
 use Rattle.rules.specs.Sound.{Route, here, step}
-use Rattle.rules.specs.Leg.{route, barred, Drive, parked, moved, drive, last}
+use Rattle.rules.specs.Leg.{barred, Drive, parked, moved, drive, last}
 use Rattle.floor.proofs.Tools.{or-f1}
-use Rattle.rules.proofs.Senses.{Sensed, Senses}
+use Rattle.theory.proofs.Senses.{Sensed, Senses}
 
 -- ---- the cells ahead: each beside the one before, and one nearer by its estimate
 

@@ -1,7 +1,7 @@
 -- A request is not refused exactly where each of the nine tests holds, here as facts.
-use Prim.Native.Nat.{ℕ, zero, suc, _≤_, _<_}
+use Prim.Native.Nat.{ℕ, suc, _≤_, _<_}
 use mathlib.Core.Path.{_≡_, refl}
-use mathlib.Core.Bool.{Bool, true, false, not, _&&_}
+use mathlib.Core.Bool.{Bool, true, false, _&&_}
 use mathlib.Core.List.{List, [], _∷_}
 use native.Mathlib.Omega.{arith}
 use lib.Dec.{ltb, leb, eqb}
@@ -9,9 +9,9 @@ use lib.ListN.{length}
 use borrow.Author.Tests.{ltb-true, leb-true, eqb-true, lt-ltb, le-leb, eq-eqb}
 use Rattle.floor.specs.Floor.{sizesOk, cells, blocked, valueAt, refusal}
 use Rattle.floor.proofs.Tools.{clash, and-1, and-2, not-t}
-use Rattle.rules.specs.Sound.{every, within, sound}
+use Rattle.rules.specs.Sound.{within, sound}
 use Rattle.rules.specs.Request.{Request, settingOk, walkRefusal}
-use Rattle.rules.proofs.Soundness.{every-at, every-i, Within, within-facts, within-test, Sound, sound-facts, sound-test}
+use Rattle.theory.proofs.Soundness.{every-at, every-i, Within, within-facts, within-test, Sound, sound-facts, sound-test}
 
 -- accepted with a trail that holds so many moves
 pub record Accepted (moves : ℕ) (r : Request) : Type 0 where

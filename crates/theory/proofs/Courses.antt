@@ -9,16 +9,16 @@ use Rattle.floor.specs.Floor.{upTo, cells, byte, blocked, valueAt}
 use Rattle.floor.proofs.Tools.{and-1, and-2, or-f1}
 use Rattle.floor.proofs.Boards.{length-tabulate, value-tabulate, blocked-tabulate}
 use Rattle.floor.proofs.Grid.{up-some}
 use Rattle.rules.specs.Sound.{Route, here}
 use Rattle.rules.specs.Leg.{ours, Leg, Stand, Setting, legFrom, left}
 use Rattle.rules.specs.Request.{settingOk}
-use Rattle.rules.specs.Promise.{gained, others}
-use Rattle.rules.proofs.Soundness.{Within}
-use Rattle.rules.proofs.Routes.{joined}
-use Rattle.rules.proofs.Sums.{others-small, others-same}
-use Rattle.rules.proofs.Senses.{sense-senses}
-use Rattle.rules.proofs.Raise.{raise-lifts}
-use Rattle.rules.proofs.Legs.{Fit, Ready, ready-same, Fair, leg-fair}
+use Rattle.theory.specs.Promise.{gained, others}
+use Rattle.theory.proofs.Soundness.{Within}
+use Rattle.theory.proofs.Routes.{joined}
+use Rattle.theory.proofs.Sums.{others-small, others-same}
+use Rattle.theory.proofs.Senses.{sense-senses}
+use Rattle.theory.proofs.Raise.{raise-lifts}
+use Rattle.theory.proofs.Legs.{Fit, Ready, ready-same, Fair, leg-fair}
 
 -- a stand from which a leg can start
 abbrev pub Set : Floor → (ℕ → Bool) → ℕ → Stand → Type 0

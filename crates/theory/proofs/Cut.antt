@@ -1,20 +1,21 @@
 -- A search that is cut off shows that there is no open route: any open route leaves the opened cells by a frontier cell.
-use Prim.Native.Nat.{ℕ, zero, suc, _+_, _≤_, _<_}
-use mathlib.Core.Path.{_≡_, refl, sym}
-use mathlib.Core.Logic.{_⊎_, inl, inr}
-use mathlib.Core.Bool.{Bool, true, false}
+use Prim.Native.Nat.{ℕ, _+_, _≤_, _<_}
+use mathlib.Core.Path.{_≡_}
+use mathlib.Core.Logic.{inl, inr}
+use mathlib.Core.Bool.{Bool, true}
 use native.Mathlib.Omega.{arith}
 use Rattle.floor.specs.declared.Floor.{Floor}
 use Rattle.floor.specs.Floor.{cells}
-use Rattle.rules.proofs.Soundness.{Sound, Within}
+use Rattle.theory.proofs.Soundness.{Sound, Within}
 use Rattle.rules.specs.Sound.{Route, here, step}
-use Rattle.rules.specs.Search.{Reached, Nothing, Search}
+use Rattle.rules.specs.Search.{Nothing, Search}
+use Rattle.floor.specs.declared.Distance.the-variants.{Reached}
 use Rattle.floor.proofs.Tools.{clash}
 use Rattle.floor.proofs.Grid.{beside-right}
-use Rattle.rules.proofs.Picks.{Least, Best}
-use Rattle.rules.proofs.Seeks.{Sought}
-use Rattle.rules.proofs.Routes.{route-open, admissible}
-use Rattle.rules.proofs.Short.{short}
+use Rattle.theory.proofs.Picks.{Least, Best}
+use Rattle.theory.proofs.Seeks.{Sought}
+use Rattle.theory.proofs.Routes.{route-open, admissible}
+use Rattle.theory.proofs.Short.{short}
 
 module _ (f : Floor) (plan known : ℕ → Bool) (est : ℕ → ℕ) (goal cart : ℕ) (s : Search)
     (sound : Sound f known est goal) (w : Within f known plan) (sought : Sought f known est goal cart s) where

@@ -1,12 +1,14 @@
 -- The cell that the search takes is a frontier cell of least g + estimate, and it takes none only where there is none.
 use Prim.Native.Nat.{ℕ, zero, suc, _+_, _≤_, _<_}
-use mathlib.Core.Path.{_≡_, refl, sym}
-use mathlib.Core.Logic.{_⊎_, inl, inr}
+use mathlib.Core.Path.{_≡_, refl}
+use mathlib.Core.Logic.{inl, inr}
 use mathlib.Core.Bool.{Bool, true, false, _&&_}
 use native.Mathlib.Omega.{arith}
 use lib.Dec.{ltb, eqb}
 use borrow.Author.Tests.{ltb-true, ltb-false, eqb-true}
-use Rattle.rules.specs.Search.{Distance, Unreached, Reached, Choice, Nothing, Take, Search, beats, better, pick}
+use Rattle.rules.specs.Search.{Choice, Nothing, Take, Search, beats, better, pick}
+use Rattle.floor.specs.declared.Distance.{Distance}
+use Rattle.floor.specs.declared.Distance.the-variants.{Unreached, Reached}
 use Rattle.floor.proofs.Tools.{clash, or-cases, or-f1, and-1, below-suc}
 
 -- c at g is in the frontier of s below n, and its g + estimate is least there

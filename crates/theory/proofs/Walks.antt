@@ -1,28 +1,28 @@
 -- A walk: its legs are a course, it keeps to its allowance, and its ending is right; with (N-1) squared moves it is never spent.
 use Prim.Native.Nat.{ℕ, zero, suc, _+_, _-_, _*_, min, _≤_, _<_}
-use mathlib.Core.Path.{_≡_, _∙_, refl, sym, subst}
-use mathlib.Core.Logic.{_⊎_, inl, inr, _↔_}
+use mathlib.Core.Path.{_≡_, refl, sym, subst}
+use mathlib.Core.Logic.{inl, inr}
 use mathlib.Core.Bool.{Bool, true, false}
-use mathlib.Core.List.{List, [], _∷_, _++_}
 use native.Mathlib.Omega.{arith}
-use native.Mathlib.Nat.{zero-mul}
 use lib.Dec.{eqb}
 use lib.ListN.{length, length-append}
 use borrow.Author.Tests.{eqb-true, eqb-false}
 use Rattle.floor.specs.declared.Floor.{Floor}
 use Rattle.floor.specs.Floor.{cells, blocked, valueAt}
 use Rattle.rules.specs.Sound.{Route}
-use Rattle.rules.specs.Leg.{Ending, Arrived, CutOff, Spent, UnderWay, ours, Leg, Stand, Setting, legFrom, left}
+use Rattle.rules.specs.Leg.{ours, Leg, Stand, Setting, legFrom, left}
+use Rattle.floor.specs.declared.Ending.{Ending}
+use Rattle.floor.specs.declared.Ending.the-variants.{Arrived, CutOff, Spent, UnderWay}
 use Rattle.rules.specs.Walk.{Walk, trailOf, openedIn, standing, onward, afterLeg, capped, walking, walk}
 use Rattle.rules.specs.Request.{Request, walkOf}
-use Rattle.rules.specs.Promise.{square, walked, moves, WalkKeeps}
-use Rattle.rules.proofs.Soundness.{NoRoute}
-use Rattle.rules.proofs.Routes.{joined, turned, admissible}
-use Rattle.rules.proofs.Sums.{others-off-goal}
-use Rattle.rules.proofs.Legs.{Ended, Fair, leg-short, leg-opened}
-use Rattle.rules.proofs.Accepts.{Accepted}
-use Rattle.rules.proofs.Courses.{Set, Some, allowed, Course, fair, at-rest, by-leg, both-runs, bounded}
-use Rattle.rules.proofs.Sequences.{start-ready, Settled, settled-arrives, settled-cut}
+use Rattle.theory.specs.Promise.{square, walked, moves, WalkKeeps}
+use Rattle.theory.proofs.Soundness.{NoRoute}
+use Rattle.theory.proofs.Routes.{joined, turned, admissible}
+use Rattle.theory.proofs.Sums.{others-off-goal}
+use Rattle.theory.proofs.Legs.{Ended, Fair, leg-short, leg-opened}
+use Rattle.theory.proofs.Accepts.{Accepted}
+use Rattle.theory.proofs.Courses.{Set, Some, allowed, Course, fair, at-rest, by-leg, both-runs, bounded}
+use Rattle.theory.proofs.Sequences.{start-ready, Settled, settled-arrives, settled-cut}
 
 -- what an ending says of a walk that had `room` moves
 abbrev pub Over : Floor → (ℕ → Bool) → ℕ → ℕ → ℕ → ℕ → ℕ → Ending → Type 0
@@ -115,44 +115,60 @@ module _ (k : Setting) (f : Floor) (plan : ℕ → Bool) (goal : ℕ) where
 
 -- ---- demand 3 for a walk from an accepted request
 
-module _ (r : Request) (allowance : ℕ) (a : Accepted allowance r) where
-  strolled : Strolled (r .setting .look) (r .floor) (blocked (r .plan)) (r .goal) (r .stand) allowance (walked r allowance)
-  unfolding walkOf
-  strolled = walk-fair (r .setting) (r .floor) (blocked (r .plan)) (r .goal) (allowed (r .setting) (a .setting)) allowance (r .stand) (start-ready allowance r a)
+module _ (r : Request) (allowance : ℕ) where
+  abbrev f : Floor
+  f = r .floor
 
-  -- off the goal the sum is below (N-1) squared, so not all of these moves are made
-  unspent : square r ≤ allowance → Over (r .floor) (blocked (r .plan)) (r .goal) (r .stand .cell) allowance (walked r allowance .stand .cell) (moves r allowance) Spent → ⊥
-  unspent big o =
-      let c = strolled .run in
-      let t = walked r allowance .stand in
-      omega (
-        arith,
-        o .0,
-        c .climb,
-        apart (t .cell) (r .goal) (cells (r .floor)) (c .ready .inside) (c .ready .aim) (o .1),
-        others-off-goal (valueAt (t .est)) (t .cell) (r .goal) (cells (r .floor)) (c .ready .sound .low) (c .ready .inside) (c .ready .aim) (o .1) (c .ready .sound .at-goal),
-      )
-    where
-      apart : (x y n : ℕ) → x < n → y < n → (x ≡ y → ⊥) → 1 < n
-      apart x y n lx ly d = omega arith
+  abbrev plan : ℕ → Bool
+  plan = blocked (r .plan)
 
-  settled : square r ≤ allowance → Settled (r .floor) (blocked (r .plan)) (r .goal) (r .stand .cell) (walked r allowance .ending)
-  settled big = at (walked r allowance .ending) (strolled .over)
-    where
-      at : (e : Ending) → Over (r .floor) (blocked (r .plan)) (r .goal) (r .stand .cell) allowance (walked r allowance .stand .cell) (moves r allowance) e
-          → Settled (r .floor) (blocked (r .plan)) (r .goal) (r .stand .cell) e
-      at Arrived o = inl (refl, (moves r allowance, subst (λ (x : ℕ). Route (r .floor) (blocked (r .plan)) x (r .stand .cell) (moves r allowance)) o (strolled .run .way)))
-      at CutOff o = inr (refl, λ q. o (q .0) (q .1))
-      at Spent o = absurd (unspent big o)
-      at UnderWay o = absurd o
+  abbrev goal : ℕ
+  goal = r .goal
 
-  pub walk-keeps : WalkKeeps r allowance
-  walk-keeps = record {
-    no-estimate-falls = strolled .run .rises;
-    none-passes-a-route = λ x n w. let h = strolled .run .ready in admissible (h .sound) (h .within) w;
-    moves-raise-the-sum = strolled .run .climb;
-    moves-bounded = (strolled .keeps, bounded (r .floor) (blocked (r .plan)) (r .goal) (strolled .run));
-    never-spent = λ big e. unspent big (subst (Over _ _ _ _ _ _ _) e (strolled .over));
-    arrives = λ big. settled-arrives (settled big);
-    is-cut-off = λ big. settled-cut (settled big);
-  }
+  abbrev w : Walk
+  w = walked r allowance
+
+  abbrev made : ℕ
+  made = moves r allowance
+
+  module _ (a : Accepted allowance r) where
+    strolled : Strolled (r .setting .look) f plan goal (r .stand) allowance w
+    unfolding walkOf
+    strolled = walk-fair (r .setting) f plan goal (allowed (r .setting) (a .setting)) allowance (r .stand) (start-ready allowance r a)
+
+    -- off the goal the sum is below (N-1) squared, so not all of these moves are made
+    unspent : square r ≤ allowance → Over f plan goal (r .stand .cell) allowance (w .stand .cell) made Spent → ⊥
+    unspent big o =
+        let c = strolled .run in
+        let t = w .stand in
+        omega (
+          arith,
+          o .0,
+          c .climb,
+          apart (t .cell) goal (cells f) (c .ready .inside) (c .ready .aim) (o .1),
+          others-off-goal (valueAt (t .est)) (t .cell) goal (cells f) (c .ready .sound .low) (c .ready .inside) (c .ready .aim) (o .1) (c .ready .sound .at-goal),
+        )
+      where
+        apart : (x y n : ℕ) → x < n → y < n → (x ≡ y → ⊥) → 1 < n
+        apart x y n lx ly d = omega arith
+
+    settled : square r ≤ allowance → Settled f plan goal (r .stand .cell) (w .ending)
+    settled big = at (w .ending) (strolled .over)
+      where
+        at : (e : Ending) → Over f plan goal (r .stand .cell) allowance (w .stand .cell) made e
+            → Settled f plan goal (r .stand .cell) e
+        at Arrived o = inl (refl, (made, subst (λ (x : ℕ). Route f plan x (r .stand .cell) made) o (strolled .run .way)))
+        at CutOff o = inr (refl, λ q. o (q .0) (q .1))
+        at Spent o = absurd (unspent big o)
+        at UnderWay o = absurd o
+
+    pub walk-keeps : WalkKeeps r allowance
+    walk-keeps = record {
+      no-estimate-falls = strolled .run .rises;
+      none-passes-a-route = λ x n w. let h = strolled .run .ready in admissible (h .sound) (h .within) w;
+      moves-raise-the-sum = strolled .run .climb;
+      moves-bounded = (strolled .keeps, bounded f plan goal (strolled .run));
+      never-spent = λ big e. unspent big (subst (Over _ _ _ _ _ _ _) e (strolled .over));
+      arrives = λ big. settled-arrives (settled big);
+      is-cut-off = λ big. settled-cut (settled big);
+    }

@@ -1,19 +1,20 @@
 -- The parents' route from the cart to the target: each cell beside the one before, not known blocked, and one lower by the new estimates.
-use Prim.Native.Nat.{ℕ, zero, suc, _+_, _≤_, _<_}
-use mathlib.Core.Path.{_≡_, _∙_, refl, sym, ap, subst}
-use mathlib.Core.Bool.{Bool, true, false, _||_}
+use Prim.Native.Nat.{ℕ, zero, suc, _+_, _<_}
+use mathlib.Core.Path.{_≡_, _∙_, refl, ap, subst}
+use mathlib.Core.Bool.{Bool, false}
 use mathlib.Core.List.{List, [], _∷_}
 use native.Mathlib.Omega.{arith}
 use lib.ListN.{length}
 use Rattle.floor.specs.declared.Floor.{Floor}
-use Rattle.floor.specs.Floor.{cells, beside}
-use Rattle.rules.specs.Search.{Reached, Search}
+use Rattle.floor.specs.Floor.{cells}
+use Rattle.rules.specs.Search.{Search}
+use Rattle.floor.specs.declared.Distance.the-variants.{Reached}
 use Rattle.rules.specs.Leg.{route, barred}
 use Rattle.floor.proofs.Tools.{clash}
-use Rattle.rules.proofs.Picks.{Least}
-use Rattle.rules.proofs.Seeks.{Sought}
-use Rattle.rules.proofs.Lifted.{ancestor, Lifted, hangs}
-use Rattle.rules.proofs.Drives.{Line, end, on}
+use Rattle.theory.proofs.Picks.{Least}
+use Rattle.theory.proofs.Seeks.{Sought}
+use Rattle.theory.proofs.Lifted.{ancestor, Lifted, hangs}
+use Rattle.theory.proofs.Drives.{Line, end, on}
 
 length-route : (parent : ℕ → ℕ) (k x : ℕ) (ahead : List ℕ) → length (route parent k x ahead) ≡ k + length ahead
 unfolding route

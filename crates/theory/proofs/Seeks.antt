@@ -1,18 +1,19 @@
 -- The search as a whole: its last state has the invariant, has opened the cart's cell and not the goal, and its target is the cell that is then taken.
 use Prim.Native.Nat.{ℕ, zero, suc, _+_, _≤_, _<_}
-use mathlib.Core.Path.{_≡_, _∙_, refl, sym, ap, subst}
-use mathlib.Core.Logic.{_⊎_, inl, inr}
+use mathlib.Core.Path.{_≡_, refl, sym, subst}
+use mathlib.Core.Logic.{inl, inr}
 use mathlib.Core.Bool.{Bool, true, false}
 use native.Mathlib.Omega.{arith}
 use lib.Dec.{eqb}
 use borrow.Author.Tests.{eqb-true, eqb-false, eq-eqb, ne-eqb}
 use Rattle.floor.specs.declared.Floor.{Floor}
 use Rattle.floor.specs.Floor.{cells}
-use Rattle.rules.proofs.Soundness.{Sound}
-use Rattle.rules.specs.Search.{Unreached, Reached, Choice, Nothing, Take, Search, start, opening, pick, Found, taken, seek}
+use Rattle.theory.proofs.Soundness.{Sound}
+use Rattle.rules.specs.Search.{Choice, Nothing, Take, Search, start, opening, pick, Found, taken, seek}
+use Rattle.floor.specs.declared.Distance.the-variants.{Unreached, Reached}
 use Rattle.floor.proofs.Tools.{both, clash, refute}
-use Rattle.rules.proofs.Picks.{Least, Best, pick-best, same, apart}
-use Rattle.rules.proofs.Invariant.{Inv, inv-opening, dist-cases, opened-cases, opened-new, opened-old}
+use Rattle.theory.proofs.Picks.{Least, Best, pick-best, same, apart}
+use Rattle.theory.proofs.Invariant.{Inv, inv-opening, dist-cases, opened-cases, opened-new, opened-old}
 
 -- ---- the first state
 
@@ -127,7 +128,7 @@ module _ (f : Floor) (known : ℕ → Bool) (est : ℕ → ℕ) (goal cart : ℕ
   sought left = rw (first, ne-eqb cart goal off, seek, taken)
       (seek-keeps f known est goal (Sought f known est goal cart) keeps left 1 (opening f known cart 0 (start cart)) opens)
 
--- ---- bounds that the code needs: no more cells are opened than the lookahead, and no distance is above the number of cells opened
+-- ---- no more cells are opened than the lookahead
 
 taken-count : (goal : ℕ) (s : Search) (n : ℕ) (p : Choice) (next : ℕ → ℕ → Found) (most : ℕ) → n ≤ most → ((c g : ℕ) → next c g .count ≤ most)
     → taken goal s n p next .count ≤ most
@@ -144,15 +145,3 @@ unfolding seek
 seek-count f known est goal zero n s = omega arith
 seek-count f known est goal (suc left) n s = taken-count goal s n (pick est s (cells f)) _ (n + suc left) (omega arith)
     (λ c g. omega (arith, seek-count f known est goal left (suc n) (opening f known c g s)))
-
-abbrev pub Near : ℕ → Search → Type 0
-Near k s = (x g : ℕ) → s .dist x ≡ Reached g → g ≤ k
-
-pub near-start : (cart : ℕ) → Near 0 (start cart)
-near-start cart x g d = omega (arith, start-only cart x g d .1)
-
-pub near-opening : (f : Floor) (known : ℕ → Bool) (c g : ℕ) (s : Search) (k : ℕ) → Near k s → s .dist c ≡ Reached g → Near (suc k) (opening f known c g s)
-near-opening f known c g s k n d x h e = elim (dist-cases f known c g s x h e) [
-  | inl q ↦ omega (arith, n c g d, q .1)
-  | inr q ↦ omega (arith, n x h (q .1))
-]

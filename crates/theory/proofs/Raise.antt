@@ -1,18 +1,19 @@
 -- Raising the estimates after a search whose target is t at g: none falls, and sound estimates stay sound.
 use Prim.Native.Nat.{ℕ, zero, suc, _+_, _-_, _≤_, _<_}
-use mathlib.Core.Path.{_≡_, _∙_, refl, sym, ap, subst}
-use mathlib.Core.Logic.{_⊎_, inl, inr}
+use mathlib.Core.Path.{_≡_, _∙_}
+use mathlib.Core.Logic.{inl, inr}
 use mathlib.Core.Bool.{Bool, true, false}
 use native.Mathlib.Omega.{arith}
 use Rattle.floor.specs.declared.Floor.{Floor}
 use Rattle.floor.specs.Floor.{cells, beside}
-use Rattle.rules.proofs.Soundness.{Sound}
-use Rattle.rules.specs.Search.{Reached, Search}
+use Rattle.theory.proofs.Soundness.{Sound}
+use Rattle.rules.specs.Search.{Search}
+use Rattle.floor.specs.declared.Distance.the-variants.{Reached}
 use Rattle.rules.specs.Leg.{lifted, raise}
 use Rattle.floor.proofs.Tools.{both, clash}
-use Rattle.rules.proofs.Picks.{Least}
-use Rattle.rules.proofs.Seeks.{Sought}
-use Rattle.rules.proofs.Lifted.{ancestor, Lifts, hangs, hangs-opened}
+use Rattle.theory.proofs.Picks.{Least}
+use Rattle.theory.proofs.Seeks.{Sought}
+use Rattle.theory.proofs.Lifted.{ancestor, Lifts, hangs, hangs-opened}
 
 module _ (F : ℕ) (s : Search) (est : ℕ → ℕ) (x : ℕ) where
   pub raise-yes : (h : ℕ) → s .opened x ≡ true → s .dist x ≡ Reached h → raise F s est x ≡ F - h

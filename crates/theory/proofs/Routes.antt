@@ -1,16 +1,13 @@
 -- Open routes: a sound estimate is at most the length of any; they join and turn round; and where there is one, there is one of fewer than N moves.
-use Prim.Native.Nat.{ℕ, zero, suc, _+_, _≤_, _<_}
-use mathlib.Core.Path.{_≡_, _∙_, refl, sym, ap, subst}
-use mathlib.Core.Logic.{_⊎_, inl, inr}
-use mathlib.Core.Bool.{Bool, true, false, _||_}
+use Prim.Native.Nat.{ℕ, _+_, _≤_}
+use mathlib.Core.Path.{_≡_}
+use mathlib.Core.Bool.{Bool, false}
 use native.Mathlib.Omega.{arith}
 use native.Mathlib.Nat.{zero-add, suc-add}
 use native.Mathlib.Numerals.{add-one}
-use lib.Dec.{eqb}
-use borrow.Author.Tests.{eqb-true, eqb-false, eq-eqb, ne-eqb}
 use Rattle.floor.specs.declared.Floor.{Floor}
-use Rattle.rules.proofs.Soundness.{Sound, Within}
+use Rattle.theory.proofs.Soundness.{Sound, Within}
 use Rattle.rules.specs.Sound.{Route, here, step}
 use Rattle.floor.proofs.Grid.{beside-left, beside-right, beside-sym}
 
 module _ {f : Floor} {plan : ℕ → Bool} where

@@ -2,16 +2,16 @@
 -- estimates are sound over any known map.
 use Prim.Native.Nat.{ℕ, zero, suc, _+_, _-_, _/_, _%_, _≤_, _<_}
 use mathlib.Core.Path.{_≡_, refl}
-use mathlib.Core.Bool.{Bool, true, false, not, _&&_, _||_}
+use mathlib.Core.Bool.{Bool, true, false, not, _||_}
 use native.Mathlib.Omega.{arith}
-use lib.Dec.{leb, eqb}
+use lib.Dec.{leb}
 use borrow.Author.Tests.{leb-true, eqb-true, le-leb, eq-eqb}
 use Rattle.floor.specs.declared.Floor.{Floor}
 use Rattle.floor.specs.Floor.{cells, manhattan, beside, valueAt, prepared}
 use Rattle.floor.proofs.Tools.{and-1, and-2, and-i, not-t, below-suc}
 use Rattle.floor.proofs.Boards.{value-tabulate}
 use Rattle.floor.proofs.Grid.{gap-self, gap-via, manhattan-lt, beside-left, beside-right, one-step}
 use Rattle.rules.specs.Sound.{Route, every, within, nearOk, sound}
 
 pub every-at : (n : ℕ) (p : ℕ → Bool) → every n p ≡ true → (x : ℕ) → x < n → p x ≡ true
 unfolding every
