@@ -20,6 +20,26 @@ pub enum Step {
     Edge,
 }
 
+// A cell's distance from the cart in a search: known, or no way to it yet.
+pub enum Distance {
+    Reached(u16),
+    Unreached,
+}
+
+// How a leg or a walk ended: `Spent` is a walk's alone, `UnderWay` a leg's.
+pub enum Ending {
+    Arrived,
+    CutOff,
+    Spent,
+    UnderWay,
+}
+
+// The two allowances of a leg are types of their own, so that neither can be handed over in the other's place: how many cells
+// it may open, and how many moves it may make.
+pub struct Lookahead(pub usize);
+
+pub struct MoveLimit(pub usize);
+
 // Any two numbers; only sizes that `sizes_hold` accepts are a floor's.
 pub struct Floor {
     pub width: usize,
@@ -39,7 +59,7 @@ impl Floor {
 
     pub const HEADINGS: [Heading; 4] = [Floor::NORTH, Floor::WEST, Floor::EAST, Floor::SOUTH];
 
-    // Whether refusal 1 does not apply.
+    // Whether both sides are in 1 to MAX_SIDE, so that refusal 1 is not given.
     pub fn sizes_hold(self) -> bool
         ensures { λ r. ⌜ r ≡ sizesOk self ⌝ }
     {
@@ -121,26 +141,6 @@ fn apart(a: u32, b: u32) -> u32
     }
     a - b
 }
-
-// A cell's distance from the cart in a search: known, or no way to it yet.
-pub enum Distance {
-    Reached(u16),
-    Unreached,
-}
-
-// How a leg or a walk ended: `Spent` is a walk's alone, `UnderWay` a leg's.
-pub enum Ending {
-    Arrived,
-    CutOff,
-    Spent,
-    UnderWay,
-}
-
-// The two allowances of a leg are types of their own, so that neither can be handed over in the other's place: how many cells
-// it may open, and how many moves it may make.
-pub struct Lookahead(pub usize);
-
-pub struct MoveLimit(pub usize);
 
 // Writes each cell's distance to the goal.
 fn fill(floor: Floor, goal: usize, est: &mut [u16])
