@@ -1,13 +1,14 @@
 -- Legs and gains in a row: what they come to composes, and what starts ready and well formed stays so.
-use Prim.Native.Nat.{ℕ, _+_, _-_, _*_, _≤_, _<_}
+use Prim.Native.Nat.{ℕ, suc, zero, _+_, _-_, _*_, _≤_, _<_}
 use mathlib.Core.Path.{_≡_, _∙_, refl, sym}
 use mathlib.Core.Bool.{Bool, true, false, _||_}
 use native.Mathlib.Omega.{arith}
+use lib.Dec.{eqb}
 use lib.ListN.{length}
 use Rattle.floor.specs.declared.Floor.{Floor}
-use Rattle.floor.specs.Floor.{upTo, cells, byte, blocked, valueAt}
+use Rattle.floor.specs.Floor.{upTo, cells, tabulate, byte, blocked, valueAt}
 use Rattle.floor.proofs.Tools.{and-1, and-2, or-f1}
-use Rattle.floor.proofs.Boards.{length-tabulate, value-tabulate, blocked-tabulate}
+use Rattle.floor.proofs.Boards.{length-tabulate, value-tabulate, blocked-tabulate, Filled, filled-all}
 use Rattle.floor.proofs.Grid.{up-some}
 use Rattle.rules.specs.Sound.{Route, here}
 use Rattle.rules.specs.Leg.{ours, Leg, Stand, Setting, legFrom, left}
@@ -121,3 +122,17 @@ gained-formed f gain s long = record {
   est-long = long;
   bytes = λ x lt. rw (value-tabulate (cells f) (λ y. byte (blocked (s .known) y || gain y)) x lt) (byte-small _);
 }
+
+-- a gain that marks nothing leaves such a stand as it is
+byte-back : (v : ℕ) → v ≤ 1 → v ≡ byte (eqb v 1 || false)
+unfolding byte
+byte-back zero le = refl
+byte-back (suc zero) le = refl
+byte-back (suc (suc v)) le = absurd (omega arith)
+
+pub nothing-gained : (f : Floor) (s : Stand) → Formed f s → gained f (λ x. false) s ≡ s
+unfolding gained Filled blocked
+nothing-gained f s m =
+    let e : s .known ≡ tabulate (cells f) (λ x. byte (blocked (s .known) x || false)) =
+    filled-all _ (cells f) (cells f) (s .known) (m .known-long) (omega arith) (λ x lt. byte-back (valueAt (s .known) x) (m .bytes x lt)) in
+    λ t. record { known = sym e t; est = s .est; cell = s .cell }

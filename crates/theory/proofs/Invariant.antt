@@ -184,7 +184,7 @@ module _ (f : Floor) (known : ℕ → Bool) (c g : ℕ) (s : Search) where
         → (new .opened (new .parent x) ≡ true) × (beside f (new .parent x) x ≡ true) × (new .dist (new .parent x) ≡ Reached a)
     hang x p a e o b d = rw e (o, b, kept p o ∙ d)
 
-    pub inv-opening : Inv f known est cart (new)
+    pub inv-opening : Inv f known est cart new
     inv-opening = record {
       done-has = λ x o. elim (opened-cases x o) [
         | inl e ↦ (g, kept x o ∙ ap (s .dist) e ∙ least .reached)
@@ -206,7 +206,7 @@ module _ (f : Floor) (known : ℕ → Bool) (c g : ℕ) (s : Search) where
         | inl q ↦ inl (front-new x (q .0))
         | inr q ↦ elim (inv .one-of x h (q .1)) [
           | inl w ↦ elim (both (eqb x c)) [
-            | inl e ↦ inr (rw (eqb-true x c e) (opened-new))
+            | inl e ↦ inr (rw (eqb-true x c e) opened-new)
             | inr e ↦ inl (front-old x w (eqb-false x c e))
           ]
           | inr o ↦ inr (opened-old x o)
@@ -227,7 +227,7 @@ module _ (f : Floor) (known : ℕ → Bool) (c g : ℕ) (s : Search) where
         | inr q ↦ inv .root x (q .1)
       ];
       linked = λ x a d. elim (dist-cases x (suc a) d) [
-        | inl q ↦ hang x c a (parent-yes x (q .0)) (opened-new) (joins-beside x (q .0))
+        | inl q ↦ hang x c a (parent-yes x (q .0)) opened-new (joins-beside x (q .0))
             (least .reached ∙ ap Reached (pred-eq a g (q .1)))
         | inr q ↦ let l = inv .linked x a (q .1) in
             hang x (s .parent x) a (parent-no x (q .0)) (opened-old (s .parent x) (l .0)) (l .1) (l .2)

@@ -118,25 +118,35 @@ module _ (m : Manner) (f : Floor) (plan : ℕ → Bool) (fit : Fit f plan m) (go
       → Fair f plan goal known est cart (followed m f plan known est cart goal limit s p)
   unfolding followed
   followed-fair s q Nothing e = stays f plan goal known est cart CutOff (s .count) r
-      (λ n w. empty-cut f plan known est goal cart (s .state) (r .sound) (r .within) q (subst (Best est (s .state) (cells f)) e (pick-best est (s .state) (cells f))) w)
-  followed-fair s q (Take t g) e = at (ltb (cells f - 1) (g + est t)) refl
+      (λ n w. empty-cut f plan known est goal cart (s .state) (r .sound) (r .within) q (subst (Best est (s .state) (cells f)) e (pick-best _ _ _)) w)
+  followed-fair s q (Take t g) e = at (ltb (cells f - 1) F) refl
     where
+      F : ℕ
+      F = g + est t
+
+      new : ℕ → ℕ
+      new = m .update f F (s .state) est
+
+      ahead : List ℕ
+      ahead = route (s .state .parent) g t []
+
       least : Least est (s .state) (cells f) t g
       least = subst (Best est (s .state) (cells f)) e (pick-best est (s .state) (cells f))
 
-      at : (b : Bool) → ltb (cells f - 1) (g + est t) ≡ b → Fair f plan goal known est cart (elim b [
+      at : (b : Bool) → ltb (cells f - 1) F ≡ b → Fair f plan goal known est cart (elim b [
         | true ↦ stayed CutOff cart (s .count) known est
-        | false ↦ driven cart goal (s .count) (m .update f (g + est t) (s .state) est) (drive (m .sensing f plan) limit known (route (s .state .parent) g t []))
+        | false ↦ driven cart goal (s .count) new (drive (m .sensing f plan) limit known ahead)
       ])
-      at true b = stays f plan goal known est cart CutOff (s .count) r
-          (λ n w. far-cut f plan known est goal cart (s .state) (r .sound) (r .within) q t g least (r .inside) (omega (arith, ltb-true (cells f - 1) (g + est t) b)) w)
+      at true b = stays f plan goal known est cart CutOff (s .count) r (λ n w.
+          far-cut f plan known est goal cart (s .state) (r .sound) (r .within) q t g least (r .inside) (omega (arith, ltb-true (cells f - 1) F b)) w)
       at false b =
-          let up = fit .lifts known est goal cart (s .state) t g (r .sound) q least (r .inside) (omega (arith, ltb-false (cells f - 1) (g + est t) b, r .inside)) in
-          goes f plan goal known est cart (s .count) (m .update f (g + est t) (s .state) est) _ r (s .state) t g up
-          (drove (m .sensing f plan) f plan (m .update f (g + est t) (s .state) est) (fit .senses) limit known cart (route (s .state .parent) g t []) (r .free) (r .within) h
-          (unbarred f known est goal cart (s .state) t g q least)
-          (line f known est goal cart (s .state) t g q least _ up))
-          (drives-on (m .sensing f plan) limit known (route (s .state .parent) g t []) some (some-way f known est goal cart (s .state) t g q least))
+          let low : F < cells f = omega (arith, ltb-false (cells f - 1) F b, r .inside) in
+          let up = fit .lifts known est goal cart (s .state) t g (r .sound) q least (r .inside) low in
+          let free = unbarred f known est goal cart (s .state) t g q least in
+          let way = line f known est goal cart (s .state) t g q least new up in
+          goes f plan goal known est cart (s .count) new _ r (s .state) t g up
+          (drove (m .sensing f plan) f plan new (fit .senses) limit known cart ahead (r .free) (r .within) h free way)
+          (drives-on (m .sensing f plan) limit known ahead some (some-way f known est goal cart (s .state) t g q least))
 
   searched-fair : (look : ℕ) → 0 < look → (cart ≡ goal → ⊥)
       → let s = seek f known est goal look 0 (start cart) in Fair f plan goal known est cart (followed m f plan known est cart goal limit s (s .target))

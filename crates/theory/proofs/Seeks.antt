@@ -13,7 +13,7 @@ use Rattle.rules.specs.Search.{Choice, Nothing, Take, Search, start, opening, p
 use Rattle.floor.specs.declared.Distance.the-variants.{Unreached, Reached}
 use Rattle.floor.proofs.Tools.{both, clash, refute}
 use Rattle.theory.proofs.Picks.{Least, Best, pick-best, same, apart}
-use Rattle.theory.proofs.Invariant.{Inv, inv-opening, dist-cases, opened-cases, opened-new, opened-old}
+use Rattle.theory.proofs.Invariant.{Inv, inv-opening, opened-cases, opened-new, opened-old}
 
 -- ---- the first state
 

@@ -62,14 +62,10 @@ under-way UnderWay = inl refl
 -- ---- the sequence
 
 module _ (r : Request) (gain : ℕ → ℕ → Bool) (setting : ℕ → Setting) where
-  abbrev f : Floor
-  f = r .floor
+  open Request r using (floor as f, goal)
 
   abbrev plan : ℕ → Bool
   plan = blocked (r .plan)
-
-  abbrev goal : ℕ
-  goal = r .goal
 
   abbrev at : ℕ → Stand
   at = standAt r gain setting

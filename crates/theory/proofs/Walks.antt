@@ -116,14 +116,10 @@ module _ (k : Setting) (f : Floor) (plan : ℕ → Bool) (goal : ℕ) where
 -- ---- demand 3 for a walk from an accepted request
 
 module _ (r : Request) (allowance : ℕ) where
-  abbrev f : Floor
-  f = r .floor
+  open Request r using (floor as f, goal)
 
   abbrev plan : ℕ → Bool
   plan = blocked (r .plan)
-
-  abbrev goal : ℕ
-  goal = r .goal
 
   abbrev w : Walk
   w = walked r allowance
