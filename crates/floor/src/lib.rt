@@ -26,6 +26,12 @@ pub enum Distance {
     Unreached,
 }
 
+// The cell that a search takes next, with its distance from the cart; or none.
+pub enum Choice {
+    Nothing,
+    Take(usize, u16),
+}
+
 // How a leg or a walk ended: `Spent` is a walk's alone, `UnderWay` a leg's.
 pub enum Ending {
     Arrived,

@@ -4,6 +4,7 @@ use mathlib.Core.Bool.{Bool, true, false, not, _&&_, _||_}
 use lib.Dec.{ltb, eqb}
 use Rattle.floor.specs.{declared.Floor.Floor, Floor.cells, Floor.beside}
 pub use Rattle.floor.specs.declared.Distance.{Distance, the-variants.Reached, the-variants.Unreached}
+pub use Rattle.floor.specs.declared.Choice.{Choice, the-variants.Nothing, the-variants.Take}
 
 -- each cell's distance from the cart, its parent, whether it is in the frontier, and whether it was opened
 pub record Search : Type 0 where
@@ -34,11 +35,6 @@ opening f known c g s = record {
   front = λ x. joins f known c g s x || (s .front x && not (eqb x c));
   opened = λ x. eqb x c || s .opened x;
 }
-
--- a cell with its g, or none
-pub data Choice : Type 0 where
-  Nothing : Choice
-  Take : ℕ → ℕ → Choice
 
 -- d at h is taken before c at g, where c has the lower number: the least g + estimate, and among equals the larger g
 unfoldable pub beats : (ℕ → ℕ) → ℕ → ℕ → ℕ → ℕ → Bool

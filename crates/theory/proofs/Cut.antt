@@ -8,7 +8,8 @@ use Rattle.floor.specs.declared.Floor.{Floor}
 use Rattle.floor.specs.Floor.{cells}
 use Rattle.theory.proofs.Soundness.{Sound, Within}
 use Rattle.rules.specs.Sound.{Route, here, step}
-use Rattle.rules.specs.Search.{Nothing, Search}
+use Rattle.floor.specs.declared.Choice.{the-variants.Nothing}
+use Rattle.rules.specs.Search.{Search}
 use Rattle.floor.specs.declared.Distance.the-variants.{Reached}
 use Rattle.floor.proofs.Tools.{clash}
 use Rattle.floor.proofs.Grid.{beside-right}

@@ -11,7 +11,8 @@ use Rattle.floor.specs.declared.Floor.{Floor}
 use Rattle.floor.specs.Floor.{cells}
 use Rattle.floor.proofs.Grid.{beside-right}
 use Rattle.rules.specs.Sound.{Route, here, step}
-use Rattle.rules.specs.Search.{Choice, Nothing, Take, Search, start, pick, Found, seek}
+use Rattle.floor.specs.declared.Choice.{Choice, the-variants.Nothing, the-variants.Take}
+use Rattle.rules.specs.Search.{Search, start, pick, Found, seek}
 use Rattle.rules.specs.Leg.{Manner, route, Drive, drive, last, Leg, ended, stayed, driven, followed, leg}
 use Rattle.floor.specs.declared.Ending.{Ending}
 use Rattle.floor.specs.declared.Ending.the-variants.{Arrived, CutOff, Spent, UnderWay}

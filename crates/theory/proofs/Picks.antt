@@ -6,7 +6,8 @@ use mathlib.Core.Bool.{Bool, true, false, _&&_}
 use native.Mathlib.Omega.{arith}
 use lib.Dec.{ltb, eqb}
 use borrow.Author.Tests.{ltb-true, ltb-false, eqb-true}
-use Rattle.rules.specs.Search.{Choice, Nothing, Take, Search, beats, better, pick}
+use Rattle.floor.specs.declared.Choice.{Choice, the-variants.Nothing, the-variants.Take}
+use Rattle.rules.specs.Search.{Search, beats, better, pick}
 use Rattle.floor.specs.declared.Distance.{Distance}
 use Rattle.floor.specs.declared.Distance.the-variants.{Unreached, Reached}
 use Rattle.floor.proofs.Tools.{clash, or-cases, or-f1, and-1, below-suc}

@@ -9,7 +9,8 @@ use borrow.Author.Tests.{eqb-true, eqb-false, eq-eqb, ne-eqb}
 use Rattle.floor.specs.declared.Floor.{Floor}
 use Rattle.floor.specs.Floor.{cells}
 use Rattle.theory.proofs.Soundness.{Sound}
-use Rattle.rules.specs.Search.{Choice, Nothing, Take, Search, start, opening, pick, Found, taken, seek}
+use Rattle.floor.specs.declared.Choice.{Choice, the-variants.Nothing, the-variants.Take}
+use Rattle.rules.specs.Search.{Search, start, opening, pick, Found, taken, seek}
 use Rattle.floor.specs.declared.Distance.the-variants.{Unreached, Reached}
 use Rattle.floor.proofs.Tools.{both, clash, refute}
 use Rattle.theory.proofs.Picks.{Least, Best, pick-best, same, apart}
