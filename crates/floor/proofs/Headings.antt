@@ -1,15 +1,15 @@
 -- Where the headings lead. Two cells of the floor share a side exactly where one of the four leads from the one to the other.
 use Prim.Native.Nat.{ℕ, zero, suc, _+_, _-_, _*_, _/_, _%_, _≤_, _<_}
-use mathlib.Core.Path.{_≡_, _∙_, refl, sym, ap, subst}
+use mathlib.Core.Path.{_≡_, _∙_, refl, sym, ap, subst, fun-ext}
 use mathlib.Core.Logic.{inl, inr}
-use mathlib.Core.Bool.{true}
+use mathlib.Core.Bool.{Bool, true, _||_}
 use native.Mathlib.Omega.{arith}
 use native.Mathlib.Nat.{div-add-mod', mod-lt, div-lt-iff-lt-mul}
 use lib.Dec.{ltb, eqb}
 use lib.Arith.{digits-div, digits-mod, digits-lt}
 use borrow.Author.Tests.{ltb-true, ltb-false, eqb-true, eqb-false, lt-ltb, le-ltb, eq-eqb, ne-eqb}
-use Rattle.floor.specs.Floor.{Floor, cells, gap, manhattan, beside, Heading, North, West, East, South, To, Edge, neighbour}
-use Rattle.floor.proofs.Tools.{both}
+use Rattle.floor.specs.Floor.{Floor, cells, gap, manhattan, beside, Heading, North, West, East, South, Step, To, Edge, neighbour, leadsTo}
+use Rattle.floor.proofs.Tools.{both, clash, or-cases, or-1, or-2, same-test}
 use Rattle.floor.proofs.Grid.{beside-right, one-step}
 
 -- each heading by its test
@@ -156,3 +156,39 @@ module _ (f : Floor) (a b : ℕ) (pos : 0 < f .width) where
   pub led : beside f a b ≡ true → (h : Heading) × (neighbour f a h ≡ To b)
   unfolding manhattan
   led e = heads (beside-right f a b e) (ways _ _ _ _ (one-step f a b e))
+
+-- ---- all four at once
+
+leads-is : (st : Step) (x : ℕ) → leadsTo st x ≡ true → st ≡ To x
+unfolding leadsTo
+leads-is (To y) x e = ap To (sym (eqb-true x y e))
+leads-is Edge x e = clash e refl
+
+is-leads : (st : Step) (x : ℕ) → st ≡ To x → leadsTo st x ≡ true
+unfolding leadsTo
+is-leads st x e = rw e (eq-eqb x x refl)
+
+-- a test of some heading
+abbrev pub some : (Heading → Bool) → Bool
+some t = ((t North || t West) || t East) || t South
+
+some-i : (t : Heading → Bool) (h : Heading) → t h ≡ true → some t ≡ true
+some-i t North e = or-1 ((t North || t West) || t East) _ (or-1 (t North || t West) _ (or-1 (t North) _ e))
+some-i t West e = or-1 ((t North || t West) || t East) _ (or-1 (t North || t West) _ (or-2 (t North) _ e))
+some-i t East e = or-1 ((t North || t West) || t East) _ (or-2 (t North || t West) _ e)
+some-i t South e = or-2 ((t North || t West) || t East) _ e
+
+some-e : (t : Heading → Bool) → some t ≡ true → (h : Heading) × (t h ≡ true)
+some-e t e = elim (or-cases ((t North || t West) || t East) (t South) e) [
+  | inl d ↦ elim (or-cases (t North || t West) (t East) d) [
+    | inl b ↦ elim (or-cases (t North) (t West) b) [ inl a ↦ (North, a) | inr a ↦ (West, a) ]
+    | inr b ↦ (East, b)
+  ]
+  | inr d ↦ (South, d)
+]
+
+-- the cells to which the four lead are the cells that share a side
+pub around : (f : Floor) (c : ℕ) → 0 < f .width → c < cells f → (λ x. some (λ h. leadsTo (neighbour f c h) x)) ≡ beside f c
+around f c pos lt = fun-ext (λ x. same-test _ _
+    (λ e. let (h, l) = some-e (λ h. leadsTo (neighbour f c h) x) e in leads f c x pos h lt (leads-is (neighbour f c h) x l))
+    (λ e. let (h, l) = led f c x pos e in some-i (λ h. leadsTo (neighbour f c h) x) h (is-leads (neighbour f c h) x l)))

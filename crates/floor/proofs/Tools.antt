@@ -66,3 +66,9 @@ below-suc P n old new y lt = elim (both (ltb y n)) [
 pub refute : (t : Bool) → (t ≡ true → ⊥) → t ≡ false
 refute true h = absurd (h refl)
 refute false h = refl
+
+-- two tests that hold together are the same
+pub same-test : (a b : Bool) → (a ≡ true → b ≡ true) → (b ≡ true → a ≡ true) → a ≡ b
+same-test true b h k = sym (h refl)
+same-test false true h k = k refl
+same-test false false h k = refl

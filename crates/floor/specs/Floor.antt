@@ -37,6 +37,11 @@ neighbour f c West = elim (eqb (c % f .width) 0) [ true ↦ Edge | false ↦ To 
 neighbour f c East = elim (eqb (c % f .width + 1) (f .width)) [ true ↦ Edge | false ↦ To (c + 1) ]
 neighbour f c South = elim (ltb (c + f .width) (cells f)) [ true ↦ To (c + f .width) | false ↦ Edge ]
 
+-- a step leads to the cell x
+unfoldable pub leadsTo : Step → ℕ → Bool
+leadsTo (To y) x = eqb x y
+leadsTo Edge x = false
+
 -- what a caller lends is lists: a list is read as a picture, a function of the cell number, and a picture is written cell by cell
 unfoldable pub tabulate : ℕ → (ℕ → ℕ) → List ℕ
 tabulate zero p = []

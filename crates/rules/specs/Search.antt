@@ -3,8 +3,7 @@ use Prim.Native.Nat.{ℕ, zero, suc, _+_}
 use mathlib.Core.Bool.{Bool, true, false, not, _&&_, _||_}
 use lib.Dec.{ltb, eqb}
 use Rattle.floor.specs.{declared.Floor.Floor, Floor.cells, Floor.beside}
-pub use Rattle.floor.specs.declared.Distance.{Distance, the-variants.Reached, the-variants.Unreached}
-pub use Rattle.floor.specs.declared.Choice.{Choice, the-variants.Nothing, the-variants.Take}
+pub use Rattle.floor.specs.declared.{Distance.Distance, Distance.the-variants.Reached, Distance.the-variants.Unreached, Choice.Choice, Choice.the-variants.Nothing, Choice.the-variants.Take}
 
 -- each cell's distance from the cart, its parent, whether it is in the frontier, and whether it was opened
 pub record Search : Type 0 where

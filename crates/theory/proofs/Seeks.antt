@@ -26,7 +26,7 @@ start-far : (cart x : ℕ) → (x ≡ cart → ⊥) → start cart .dist x ≡ U
 unfolding start
 start-far cart x e = rw (ne-eqb x cart e, start)
 
-start-only : (cart x g : ℕ) → start cart .dist x ≡ Reached g → (x ≡ cart) × (g ≡ 0)
+pub start-only : (cart x g : ℕ) → start cart .dist x ≡ Reached g → (x ≡ cart) × (g ≡ 0)
 start-only cart x g d = elim (both (eqb x cart)) [
   | inl e ↦ (eqb-true x cart e, same g 0 d (start-dist cart x (eqb-true x cart e)))
   | inr e ↦ absurd (apart d (start-far cart x (eqb-false x cart e)))
