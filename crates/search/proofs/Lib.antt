@@ -4,3 +4,8 @@ pub mod Showing
 pub mod Offering
 pub mod Picking
 pub mod Seeking
+pub mod Sweeping
+pub mod Raising
+pub mod Tracing
+pub mod Holding
+pub mod Planning

@@ -1,12 +1,13 @@
 -- The search in the steps that the code takes: a cell leaves the frontier, its neighbours join one by one, and so on to the target.
-use Prim.Native.Nat.{ℕ, _≤_, _<_}
-use mathlib.Core.{Path._≡_, Bool.Bool, Bool.true, Bool.false, Bool.not, Bool._&&_, Bool._||_, List.List}
+use Prim.Native.Nat.{ℕ, _+_, _≤_, _<_}
+use mathlib.Core.{Path._≡_, Bool.Bool, Bool.true, Bool.false, Bool.not, Bool._&&_, Bool._||_, List.List, List.[]}
 use lib.Dec.{eqb}
 use Rattle.floor.specs.declared.Distance.{the-variants.Reached}
 use Rattle.floor.specs.declared.Choice.{Choice, the-variants.Nothing, the-variants.Take}
-use Rattle.floor.specs.{declared.Floor.Floor, Floor.cells, Floor.blocked, Floor.valueAt}
+use Rattle.floor.specs.{declared.Floor.Floor, Floor.cells, Floor.tabulate, Floor.blocked, Floor.valueAt}
 use Rattle.rules.specs.Search.{Search, falls, Found, seek}
-use Rattle.search.specs.declared.Sought.{Sought}
+use Rattle.rules.specs.Leg.{raise, route}
+use Rattle.search.specs.{declared.Sought.Sought, Room.holding}
 
 -- c leaves the frontier, opened
 unfoldable pub leaving : ℕ → Search → Search
@@ -49,3 +50,8 @@ pub record Searched (f : Floor) (known est : List ℕ) (goal look : ℕ) (s t : 
   pub is : found r t ≡ seek f (blocked known) (valueAt est) goal look 0 s
   pub rooted : (x : ℕ) → t .parent x < cells f
   pub inside : Below (cells f) (r .target)
+
+-- the target c at g was made for: the estimates are raised, and the room of n numbers holds the route and nothing else
+pub record Laid (f : Floor) (est : List ℕ) (s : Search) (c g : ℕ) (est′ : List ℕ) (n : ℕ) (room : List ℕ) : Type 0 where
+  pub raised : est′ ≡ tabulate (cells f) (raise (g + valueAt est c) s (valueAt est))
+  pub traced : room ≡ holding n (route (s .parent) g c [])
