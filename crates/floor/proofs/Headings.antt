@@ -8,9 +8,9 @@ use native.Mathlib.Nat.{div-add-mod', mod-lt, div-lt-iff-lt-mul}
 use lib.Dec.{ltb, eqb}
 use lib.Arith.{digits-div, digits-mod, digits-lt}
 use borrow.Author.Tests.{ltb-true, ltb-false, eqb-true, eqb-false, lt-ltb, le-ltb, eq-eqb, ne-eqb}
-use Rattle.floor.specs.Floor.{Floor, cells, gap, manhattan, beside, Heading, North, West, East, South, Step, To, Edge, neighbour, leadsTo}
+use Rattle.floor.specs.Floor.{Floor, sizesOk, cells, gap, manhattan, beside, Heading, North, West, East, South, Step, To, Edge, neighbour, leadsTo}
 use Rattle.floor.proofs.Tools.{both, clash, or-cases, or-1, or-2, same-test}
-use Rattle.floor.proofs.Grid.{beside-right, one-step}
+use Rattle.floor.proofs.Grid.{sides, beside-right, one-step}
 
 -- each heading by its test
 module _ (f : Floor) (c : ℕ) where
@@ -156,6 +156,10 @@ module _ (f : Floor) (a b : ℕ) (pos : 0 < f .width) where
   pub led : beside f a b ≡ true → (h : Heading) × (neighbour f a h ≡ To b)
   unfolding manhattan
   led e = heads (beside-right f a b e) (ways _ _ _ _ (one-step f a b e))
+
+-- a heading that leads anywhere leads to a cell of the floor
+pub to-cell : (f : Floor) (c : ℕ) (h : Heading) (st : Step) → st ≡ neighbour f c h → (y : ℕ) → sizesOk f ≡ true → c < cells f → st ≡ To y → y < cells f
+to-cell f c h st is y s lt e = beside-right f c y (leads f c y (sides f s .some-width) h lt (sym is ∙ e))
 
 -- ---- all four at once
 

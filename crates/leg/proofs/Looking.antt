@@ -1,0 +1,66 @@
+-- The look along the remaining route: the three ways on from a place, and what it tells.
+use Prim.Native.Nat.{ℕ, zero, suc, _+_, _-_, _≤_, _<_}
+use mathlib.Core.Path.{_≡_, _∙_, refl, sym, ap}
+use mathlib.Core.Logic.{inl, inr}
+use mathlib.Core.Bool.{Bool, true, false, _||_}
+use mathlib.Core.List.{List, [], _∷_}
+use native.Mathlib.Omega.{arith}
+use lib.Dec.{ltb, eqb}
+use lib.ListN.{length, getD}
+use borrow.Author.Tests.{eq-eqb, ne-eqb, lt-ltb, le-ltb}
+use Rattle.floor.specs.Floor.{blocked, valueAt}
+use Rattle.floor.proofs.Tools.{both}
+use Rattle.rules.specs.Leg.{barred}
+use Rattle.search.specs.Room.{column, routeFrom}
+use Rattle.leg.specs.Moving.{firstBlocked}
+
+module _ (known room : List ℕ) (moves : ℕ) where
+  -- what is found from i on
+  abbrev from : ℕ → ℕ
+  from i = firstBlocked (blocked known) i (routeFrom room i (moves - i))
+
+  pub at-end : (i : ℕ) → moves ≤ i → i ≡ from i
+  unfolding firstBlocked routeFrom
+  at-end i le = let e : moves - i ≡ 0 = omega arith in rw e
+
+  module _ (i : ℕ) (lt : i < moves) (c : ℕ) (is : c ≡ column 3 room i) where
+    one-more : moves - i ≡ suc (moves - (i + 1))
+    one-more = omega arith
+
+    pub at-blocked : getD known c 0 ≡ 1 → i ≡ from i
+    unfolding firstBlocked routeFrom blocked valueAt
+    at-blocked b = rw (one-more, ← is, eq-eqb (getD known c 0) 1 b, firstBlocked)
+
+    pub at-open : (getD known c 0 ≡ 1 → ⊥) → from (i + 1) ≡ from i
+    unfolding firstBlocked routeFrom blocked valueAt
+    at-open n = rw (one-more, ← is, ne-eqb (getD known c 0) 1 n, firstBlocked)
+
+-- ---- a blocked cell ahead is found before the end, and the end exactly where there is none
+
+length-routeFrom : (room : List ℕ) (i k : ℕ) → length (routeFrom room i k) ≡ k
+unfolding routeFrom
+length-routeFrom room i zero = refl
+length-routeFrom room i (suc k) = ap suc (length-routeFrom room (i + 1) k)
+
+at-least : (known : ℕ → Bool) (i : ℕ) (ahead : List ℕ) → i ≤ firstBlocked known i ahead
+unfolding firstBlocked
+at-least known i [] = omega arith
+at-least known i (c ∷ ahead) = elim (both (known c)) [
+  | inl e ↦ rw (e, firstBlocked) (omega arith)
+  | inr e ↦ rw (e, firstBlocked) (omega (arith, at-least known (i + 1) ahead))
+]
+
+found : (known : ℕ → Bool) (i : ℕ) (ahead : List ℕ) → ltb (firstBlocked known i ahead) (i + length ahead) ≡ barred known ahead
+unfolding firstBlocked barred
+found known i [] = le-ltb i (i + 0) (omega arith)
+found known i (c ∷ ahead) = elim (both (known c)) [
+  | inl e ↦ rw (e, firstBlocked) (lt-ltb i (i + suc (length ahead)) (omega arith))
+  | inr e ↦ rw (e, firstBlocked) (ap (ltb (firstBlocked known (i + 1) ahead)) (omega arith) ∙ found known (i + 1) ahead)
+]
+
+pub found-before : (known room : List ℕ) (i moves r : ℕ) → i ≤ moves → r ≡ firstBlocked (blocked known) i (routeFrom room i (moves - i))
+    → ltb r moves ≡ barred (blocked known) (routeFrom room i (moves - i))
+found-before known room i moves r le e =
+    let ahead = routeFrom room i (moves - i) in
+    let n : i + length ahead ≡ moves = omega (arith, length-routeFrom room i (moves - i)) in
+    rw (e, ← n) (found (blocked known) i ahead)
