@@ -1,2 +1,3 @@
 pub mod Marking
 pub mod Looking
+pub mod Driving

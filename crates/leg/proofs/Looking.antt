@@ -1,6 +1,6 @@
 -- The look along the remaining route: the three ways on from a place, and what it tells.
 use Prim.Native.Nat.{ℕ, zero, suc, _+_, _-_, _≤_, _<_}
-use mathlib.Core.Path.{_≡_, _∙_, refl, sym, ap}
+use mathlib.Core.Path.{_≡_, _∙_, refl, sym, ap, ap₂}
 use mathlib.Core.Logic.{inl, inr}
 use mathlib.Core.Bool.{Bool, true, false, _||_}
 use mathlib.Core.List.{List, [], _∷_}
@@ -8,11 +8,12 @@ use native.Mathlib.Omega.{arith}
 use lib.Dec.{ltb, eqb}
 use lib.ListN.{length, getD}
 use borrow.Author.Tests.{eq-eqb, ne-eqb, lt-ltb, le-ltb}
-use Rattle.floor.specs.Floor.{blocked, valueAt}
-use Rattle.floor.proofs.Tools.{both}
-use Rattle.rules.specs.Leg.{barred}
+use Rattle.floor.specs.declared.Floor.{Floor}
+use Rattle.floor.specs.Floor.{beside, blocked, valueAt}
+use Rattle.floor.proofs.Tools.{both, or-f2}
+use Rattle.rules.specs.Leg.{sense, barred}
 use Rattle.search.specs.Room.{column, routeFrom}
-use Rattle.leg.specs.Moving.{firstBlocked}
+use Rattle.leg.specs.Moving.{marked, Marked, firstBlocked, Looked}
 
 module _ (known room : List ℕ) (moves : ℕ) where
   -- what is found from i on
@@ -63,4 +64,22 @@ pub found-before : (known room : List ℕ) (i moves r : ℕ) → i ≤ moves →
 found-before known room i moves r le e =
     let ahead = routeFrom room i (moves - i) in
     let n : i + length ahead ≡ moves = omega (arith, length-routeFrom room i (moves - i)) in
-    rw (e, ← n) (found (blocked known) i ahead)
+    ap₂ ltb e (sym n) ∙ found (blocked known) i ahead
+
+-- ---- sensing, and the look where anything new was marked
+
+module _ (f : Floor) (plan known : List ℕ) (c : ℕ) (ahead known′ : List ℕ) (new : Bool) (m : Marked (beside f c) plan known known′ new) where
+  pub looked : (stop : Bool) → stop ≡ barred (blocked known′) ahead → Looked f plan known c ahead known′ stop
+  unfolding marked sense
+  looked stop e = record { seen = m .seen; bytes = m .bytes; looks = e }
+
+  pub not-needed : new ≡ false → barred (blocked known) ahead ≡ false → Looked f plan known c ahead known′ false
+  not-needed n b = looked false (sym b ∙ ap (λ (k : List ℕ). barred (blocked k) ahead) (sym (m .same n)))
+
+-- what is not barred is not barred a cell later
+pub barred-later : (known : ℕ → Bool) (room : List ℕ) (m ahead : ℕ) → m < ahead → barred known (routeFrom room m (ahead - m)) ≡ false
+    → barred known (routeFrom room (m + 1) (ahead - (m + 1))) ≡ false
+unfolding barred routeFrom
+barred-later known room m ahead lt b =
+    let a : ahead - m ≡ suc (ahead - (m + 1)) = omega arith in
+    or-f2 (known (column 3 room m)) _ (rw a at b)

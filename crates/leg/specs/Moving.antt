@@ -5,7 +5,7 @@ use lib.ListN.{length, drop}
 use Rattle.floor.specs.{declared.Floor.Floor, Floor.sizesOk, Floor.cells, Floor.blocked, Floor.valueAt}
 use Rattle.rules.specs.Leg.{sense, barred, Drive, drive, last}
 use Rattle.search.specs.Room.{column, routeFrom}
-
+use Rattle.leg.specs.declared.Drove.{Drove}
 
 -- what is asked of plan and known map: of the floor's size, and no byte of the known map above 1
 pub record Maps (f : Floor) (plan known : List ℕ) : Type 0 where
@@ -41,3 +41,10 @@ pub record Looked (f : Floor) (plan known : List ℕ) (c : ℕ) (ahead known′ 
   pub bytes : (x : ℕ) → valueAt known′ x ≤ 1
   pub looks : stop ≡ barred (blocked known′) ahead
 
+-- the moves d were made from the cart: its new cell and their number, the trail, and the known map
+pub record Driven (cart : ℕ) (d : Drive) (r : Drove) (known trail trail′ : List ℕ) : Type 0 where
+  pub cell : r .cell ≡ last cart (d .made)
+  pub moves : r .moves ≡ length (d .made)
+  pub writes : trail′ ≡ d .made ++ drop (length (d .made)) trail
+  pub seen : blocked known ≡ d .seen
+  pub bytes : (x : ℕ) → valueAt known x ≤ 1

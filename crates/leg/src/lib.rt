@@ -9,16 +9,14 @@ use search::Planned;
 ghost use mathlib.Core.Path.{_≡_};
 ghost use mathlib.Core.Bool.{false};
 ghost use mathlib.Core.List.{[]};
-ghost use Prim.Native.Nat.{ℕ, _+_, _-_, _*_, _≤_, _<_};
+ghost use Prim.Native.Nat.{ℕ, _+_, _-_, _*_, _≤_, _<_, min};
 ghost use lib.ListN.{length};
 ghost use Rattle.floor.specs.Floor.{cells, beside, neighbour, leadsTo, blocked, valueAt};
 ghost use Rattle.rules.specs.Leg.{sense, barred, drive, ended};
 ghost use Rattle.rules.specs.Request.{legRefusal};
 ghost use Rattle.refusals.specs.Given.{given};
 ghost use Rattle.search.specs.Room.{routeFrom, holding};
-
-ghost use Rattle.leg.specs.Moving.{Maps, Marked, firstBlocked, Ahead, Looked};
-
+ghost use Rattle.leg.specs.Moving.{Maps, Marked, firstBlocked, Ahead, Looked, Driven};
 
 // Senses the neighbour of `cell` in a heading: where it is blocked in the plan it becomes blocked in the known map. Answers whether it
 // was not known so before.
@@ -68,4 +66,77 @@ fn first_blocked(floor: Floor, known: &[u8], room: &[u16], from: usize, moves: u
         i += 1;
     };
     at
+}
+
+// Senses from `cell`. Answers whether a cell of the route, from its place `from` on, is now known blocked; none was before, so the
+// look along the route is taken only where something new was marked.
+fn sense_and_look(
+    floor: Floor,
+    plan: &[u8],
+    known: &mut [u8],
+    room: &[u16],
+    cell: usize,
+    from: usize,
+    moves: usize,
+) -> bool
+    requires { ⌜ Maps floor (now plan) (now known) × (cell < cells floor) × Ahead floor (now room) moves × (from ≤ moves) ⌝ }
+    requires { ⌜ barred (blocked (now known)) (routeFrom (now room) from (moves - from)) ≡ false ⌝ }
+    ensures { λ r. ⌜ Looked floor (now (plan .entry)) (now (known .entry)) cell (routeFrom (now (room .entry)) from (moves - from)) (now (known .exit)) r ⌝ }
+{
+    if !sense(floor, plan, known, cell) {
+        return false;
+    }
+    first_blocked(floor, known, room, from, moves) < moves
+}
+
+// Where the moves of a leg end: the cart's new cell and the number of moves.
+pub struct Drove {
+    pub cell: u16,
+    pub moves: usize,
+}
+
+// The lesser of two numbers.
+fn lesser(a: usize, b: usize) -> usize
+    ensures { λ r. ⌜ r ≡ min a b ⌝ }
+{
+    if a < b {
+        return a;
+    }
+    b
+}
+
+// Moves the cart along the route of `ahead` cells in the room, writes each cell to the trail and senses from it. Stops at the
+// target, at the move limit, or when a cell ahead is now known blocked.
+fn drive(
+    floor: Floor,
+    plan: &[u8],
+    known: &mut [u8],
+    room: &[u16],
+    ahead: usize,
+    cart: usize,
+    limit: usize,
+    trail: &mut [u16],
+) -> Drove
+    requires { ⌜ Maps floor (now plan) (now known) × Ahead floor (now room) ahead × (cart < cells floor) × (limit ≤ length (now trail)) ⌝ }
+    requires { ⌜ barred (blocked (now known)) (routeFrom (now room) 0 ahead) ≡ false ⌝ }
+    ensures { λ r. ⌜ Driven cart (drive (sense floor (blocked (now (plan .entry)))) limit (blocked (now (known .entry))) (routeFrom (now (room .entry)) 0 ahead)) r (now (known .exit)) (now (trail .entry)) (now (trail .exit)) ⌝ }
+{
+    let most = lesser(limit, ahead);
+    let mut moves = 0;
+    let mut cell = cart as u16;
+    while moves < most {
+        cell = search::route_cell(room, moves);
+        trail[moves] = cell;
+        moves += 1;
+        if sense_and_look(floor, plan, known, room, cell as usize, moves, ahead) {
+            return Drove {
+                cell: cell,
+                moves: moves,
+            };
+        }
+    }
+    Drove {
+        cell: cell,
+        moves: moves,
+    }
 }

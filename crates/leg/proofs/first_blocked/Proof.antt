@@ -8,9 +8,6 @@ use borrow.Author.Needs.{needs}
 use native.Mathlib.Omega.{arith}
 use Rattle.leg.proofs.first_blocked.Statement.{statement}
 use Rattle.leg.proofs.first_blocked.Tie as tie
-use Rattle.leg.proofs.first_blocked.Reads as reads
-use Rattle.leg.proofs.first_blocked.Lts as lts
-use Rattle.search.proofs.route_cell.Reads as route-cell-reads
 
 abbrev Inv-loop : tie.InvT-loop
 Inv-loop known room from moves i₀ i = (i ≤ moves) × (firstBlocked (blocked known) i (routeFrom room i (moves - i)) ≡ firstBlocked (blocked known) from (routeFrom room from (moves - from)))
@@ -24,17 +21,8 @@ loop-holds c = (omega arith, refl)
 route-cell-requires : tie.Need-route-cell-requires Inv-loop μ-loop
 route-cell-requires c κs = omega (arith, c .before .before .before .before .pre .1 .fits)
 
-cast-cell : tie.Need-cast-cell Inv-loop μ-loop
-cast-cell c = search needs
-
 shared-slice-read-if2 : tie.Need-shared-slice-read-if2 Inv-loop μ-loop
 shared-slice-read-if2 c = omega (arith, c .before .before .before .before .before .before .pre .1 .on-floor (c .before .before .before .loop .i) (c .before .before .if1 .left), c .before .route-cell .ensures)
-
-add-i : tie.Need-add-i Inv-loop μ-loop
-add-i c = search needs
-
-loop-less : tie.Need-loop-less Inv-loop μ-loop
-loop-less c = search needs
 
 loop-again : tie.Need-loop-again Inv-loop μ-loop
 loop-again c =
@@ -57,10 +45,10 @@ first-blocked-spec =
     μ-loop
     loop-holds
     route-cell-requires
-    cast-cell
+    (λ c. search needs)
     shared-slice-read-if2
-    add-i
-    loop-less
+    (λ c. search needs)
+    (λ c. search needs)
     loop-again
     returns
     returns-2)

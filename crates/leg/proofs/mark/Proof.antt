@@ -6,22 +6,10 @@ use native.Mathlib.Omega.{arith}
 use borrow.Author.Needs.{needs}
 use Rattle.leg.proofs.mark.Statement.{statement}
 use Rattle.leg.proofs.mark.Tie as tie
-use Rattle.leg.proofs.mark.Reads as reads
-use Rattle.leg.proofs.mark.Lts as lts
-use Rattle.floor.proofs.Floor.neighbour.Reads as neighbour-reads
 
 -- the neighbour is on the floor
 inside : (c : tie.After-x) → c .x .given .0 .0 < cells (c .before .before .before .before .before .args .floor)
 inside c = to-cell _ _ _ _ (c .before .before .neighbour .ensures) _ (c .before .before .before .before .before .pre .0 .sized) (c .before .before .before .before .before .pre .1) (c .x .given .1)
-
-neighbour-requires : tie.Need-neighbour-requires
-neighbour-requires c κs = search needs
-
-enum-known-x : tie.Need-enum-known-x
-enum-known-x c = search needs
-
-enum-told : tie.Need-enum-told
-enum-told c = search needs
 
 returns : tie.Need-returns
 returns c = off-floor _ _ (c .before .before .before .before .before .pre .0 .bytes) _ _ _ _ (c .before .before .neighbour .ensures) (c .enum-told .given .1)
@@ -41,9 +29,6 @@ returns-3 c = known-before _ _ (c .before .before .before .before .before .befor
 slice-write-known : tie.Need-slice-write-known
 slice-write-known c = omega (arith, inside (c .before .before .before .before .before))
 
-same-length : tie.Need-same-length
-same-length c = search needs
-
 returns-4 : tie.Need-returns-4
 returns-4 c = now-marked _ _ (c .before .before .before .before .before .before .before .before .before .before .pre .0 .bytes) _ _ _ _ (c .before .before .before .before .before .before .before .neighbour .ensures) _ (c .before .before .before .before .before .x .given .1) (omega (arith, inside (c .before .before .before .before .before))) (c .before .before .if1 .left)
 
@@ -51,14 +36,14 @@ pub mark-spec : {M : Type 1} → statement M
 mark-spec =
     tie.close
     (tie.spec
-    neighbour-requires
-    enum-known-x
-    enum-told
+    (λ c κs. search needs)
+    (λ c. search needs)
+    (λ c. search needs)
     returns
     shared-slice-read-if1
     returns-2
     slice-read-if2
     returns-3
     slice-write-known
-    same-length
+    (λ c. search needs)
     returns-4)
