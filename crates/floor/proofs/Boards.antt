@@ -49,3 +49,18 @@ pub filled-all : (p : ℕ → ℕ) (n i : ℕ) (l : List ℕ) → length l ≡ n
 unfolding Filled valueAt
 filled-all p n i l e le h = ext-getD 0 l (tabulate n p) (e ∙ sym (length-tabulate n p))
     (λ x lt. h x (omega arith) ∙ sym (value-tabulate n p x (omega arith)))
+
+-- a list is its own picture, and so is a map without bytes above 1
+pub own-values : (n : ℕ) (l : List ℕ) → length l ≡ n → l ≡ tabulate n (valueAt l)
+unfolding Filled
+own-values n l e = filled-all (valueAt l) n n l e (omega arith) (λ x lt. refl)
+
+byte-back : (v : ℕ) → v ≤ 1 → v ≡ byte (eqb v 1)
+unfolding byte
+byte-back zero le = refl
+byte-back (suc zero) le = refl
+byte-back (suc (suc v)) le = absurd (omega arith)
+
+pub own-bytes : (n : ℕ) (l : List ℕ) → length l ≡ n → ((x : ℕ) → x < n → valueAt l x ≤ 1) → l ≡ tabulate n (λ x. byte (blocked l x))
+unfolding Filled blocked
+own-bytes n l e h = filled-all _ n n l e (omega arith) (λ x lt. byte-back (valueAt l x) (h x lt))

@@ -14,6 +14,7 @@ use borrow.Author.Tests.{leb-true, leb-false}
 use Rattle.floor.specs.Floor.{blocked}
 use Rattle.floor.proofs.Tools.{both}
 use Rattle.rules.specs.Leg.{barred, Drive, parked, moved, drive, last}
+use Rattle.theory.proofs.Drives.{drives-short}
 use Rattle.search.specs.Room.{column, routeFrom}
 use Rattle.leg.specs.declared.Drove.{Drove}
 use Rattle.leg.specs.Moving.{Driven}
@@ -149,3 +150,8 @@ module _ (sees : ℕ → (ℕ → Bool) → ℕ → Bool) (limit : ℕ) (room : 
       (ec ∙ new-here m cell known (blocked now) trail g c within below roomy is sensed)
       em
       bytes
+
+-- no more moves than the limit
+pub moves-short : (sees : ℕ → (ℕ → Bool) → ℕ → Bool) (limit cart : ℕ) (known : ℕ → Bool) (way : List ℕ) (r : Drove) (now trail trail′ : List ℕ)
+    → Driven cart (drive sees limit known way) r now trail trail′ → r .moves ≤ limit
+moves-short sees limit cart known way r now trail trail′ m = omega (arith, m .moves, drives-short sees limit known way)

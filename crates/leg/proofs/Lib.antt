@@ -1,3 +1,4 @@
 pub mod Marking
 pub mod Looking
 pub mod Driving
+pub mod Coming

@@ -3,9 +3,9 @@ use Prim.Native.Nat.{ℕ, _+_, _-_, _*_, _≤_, _<_}
 use mathlib.Core.{Path._≡_, Bool.Bool, Bool.true, Bool.false, Bool._&&_, Bool._||_, List.List, List.[], List._∷_, List._++_}
 use lib.ListN.{length, drop}
 use Rattle.floor.specs.{declared.Floor.Floor, Floor.sizesOk, Floor.cells, Floor.blocked, Floor.valueAt}
-use Rattle.rules.specs.Leg.{sense, barred, Drive, drive, last}
+use Rattle.rules.specs.Leg.{sense, barred, Drive, drive, last, Leg}
 use Rattle.search.specs.Room.{column, routeFrom}
-use Rattle.leg.specs.declared.Drove.{Drove}
+use Rattle.leg.specs.declared.{Drove.Drove, LegDone.LegDone}
 
 -- what is asked of plan and known map: of the floor's size, and no byte of the known map above 1
 pub record Maps (f : Floor) (plan known : List ℕ) : Type 0 where
@@ -47,4 +47,14 @@ pub record Driven (cart : ℕ) (d : Drive) (r : Drove) (known trail trail′ : L
   pub moves : r .moves ≡ length (d .made)
   pub writes : trail′ ≡ d .made ++ drop (length (d .made)) trail
   pub seen : blocked known ≡ d .seen
+  pub bytes : (x : ℕ) → valueAt known x ≤ 1
+
+-- a leg l came to this: its result, the known map and the trail; the estimates are told apart
+pub record Came (l : Leg) (r : LegDone) (known trail trail′ : List ℕ) : Type 0 where
+  pub ending : r .ending ≡ l .ending
+  pub cell : r .cell ≡ l .cell
+  pub moves : r .moves ≡ length (l .trail)
+  pub opened : r .opened ≡ l .opened
+  pub writes : trail′ ≡ l .trail ++ drop (length (l .trail)) trail
+  pub seen : blocked known ≡ l .known
   pub bytes : (x : ℕ) → valueAt known x ≤ 1

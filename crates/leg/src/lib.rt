@@ -12,11 +12,11 @@ ghost use mathlib.Core.List.{[]};
 ghost use Prim.Native.Nat.{ℕ, _+_, _-_, _*_, _≤_, _<_, min};
 ghost use lib.ListN.{length};
 ghost use Rattle.floor.specs.Floor.{cells, beside, neighbour, leadsTo, blocked, valueAt};
-ghost use Rattle.rules.specs.Leg.{sense, barred, drive, ended};
+ghost use Rattle.rules.specs.Leg.{sense, barred, drive, ended, driven};
 ghost use Rattle.rules.specs.Request.{legRefusal};
 ghost use Rattle.refusals.specs.Given.{given};
 ghost use Rattle.search.specs.Room.{routeFrom, holding};
-ghost use Rattle.leg.specs.Moving.{Maps, Marked, firstBlocked, Ahead, Looked, Driven};
+ghost use Rattle.leg.specs.Moving.{Maps, Marked, firstBlocked, Ahead, Looked, Driven, Came};
 
 // Senses the neighbour of `cell` in a heading: where it is blocked in the plan it becomes blocked in the known map. Answers whether it
 // was not known so before.
@@ -138,5 +138,52 @@ fn drive(
     Drove {
         cell: cell,
         moves: moves,
+    }
+}
+
+// Arrived if the cart is on the goal, else under way.
+fn ending_at(cell: u16, goal: usize) -> Ending
+    ensures { λ r. ⌜ r ≡ ended cell goal ⌝ }
+{
+    if cell as usize == goal {
+        return Ending::Arrived;
+    }
+    Ending::UnderWay
+}
+
+// A leg's ending beside the cart's new cell, the moves and the count of cells opened.
+pub struct LegDone {
+    pub ending: Ending,
+    pub cell: u16,
+    pub moves: u16,
+    pub opened: u16,
+}
+
+// Steps f and g over the route of `ahead` cells that the room holds, which is all zero afterwards.
+fn follow(
+    floor: Floor,
+    plan: &[u8],
+    known: &mut [u8],
+    room: &mut [u16],
+    ahead: usize,
+    cart: usize,
+    goal: usize,
+    limit: MoveLimit,
+    trail: &mut [u16],
+    opened: usize,
+) -> LegDone
+    requires { ⌜ Maps floor (now plan) (now known) × Ahead floor (now room) ahead × (cart < cells floor) × (limit .0 ≤ length (now trail)) ⌝ }
+    requires { ⌜ barred (blocked (now known)) (routeFrom (now room) 0 ahead) ≡ false ⌝ }
+    requires { ⌜ (limit .0 ≤ 4096) × (opened ≤ 4096) × (now room ≡ holding (length (now room)) (routeFrom (now room) 0 ahead)) ⌝ }
+    ensures { λ r. ⌜ (now (room .exit) ≡ holding (length (now (room .entry))) [])
+        × ((est : ℕ → ℕ) → Came (driven cart goal opened est (drive (sense floor (blocked (now (plan .entry)))) (limit .0) (blocked (now (known .entry))) (routeFrom (now (room .entry)) 0 ahead))) r (now (known .exit)) (now (trail .entry)) (now (trail .exit))) ⌝ }
+{
+    let drove = drive(floor, plan, known, room, ahead, cart, limit.0, trail);
+    search::forget(room, ahead);
+    LegDone {
+        ending: ending_at(drove.cell, goal),
+        cell: drove.cell,
+        moves: drove.moves as u16,
+        opened: opened as u16,
     }
 }

@@ -1,14 +1,13 @@
 -- Legs and gains in a row: what they come to composes, and what starts ready and well formed stays so.
 use Prim.Native.Nat.{ℕ, suc, zero, _+_, _-_, _*_, _≤_, _<_}
-use mathlib.Core.Path.{_≡_, _∙_, refl, sym}
+use mathlib.Core.Path.{_≡_, _∙_, refl, sym, ap, fun-ext}
 use mathlib.Core.Bool.{Bool, true, false, _||_}
 use native.Mathlib.Omega.{arith}
-use lib.Dec.{eqb}
 use lib.ListN.{length}
 use Rattle.floor.specs.declared.Floor.{Floor}
 use Rattle.floor.specs.Floor.{upTo, cells, tabulate, byte, blocked, valueAt}
 use Rattle.floor.proofs.Tools.{and-1, and-2, or-f1}
-use Rattle.floor.proofs.Boards.{length-tabulate, value-tabulate, blocked-tabulate, Filled, filled-all}
+use Rattle.floor.proofs.Boards.{length-tabulate, value-tabulate, blocked-tabulate, own-bytes}
 use Rattle.floor.proofs.Grid.{up-some}
 use Rattle.rules.specs.Sound.{Route, here}
 use Rattle.rules.specs.Leg.{ours, Leg, Stand, Setting, legFrom, left}
@@ -124,15 +123,14 @@ gained-formed f gain s long = record {
 }
 
 -- a gain that marks nothing leaves such a stand as it is
-byte-back : (v : ℕ) → v ≤ 1 → v ≡ byte (eqb v 1 || false)
-unfolding byte
-byte-back zero le = refl
-byte-back (suc zero) le = refl
-byte-back (suc (suc v)) le = absurd (omega arith)
+or-false : (b : Bool) → b ≡ (b || false)
+or-false true = refl
+or-false false = refl
 
 pub nothing-gained : (f : Floor) (s : Stand) → Formed f s → gained f (λ x. false) s ≡ s
-unfolding gained Filled blocked
+unfolding gained
 nothing-gained f s m =
     let e : s .known ≡ tabulate (cells f) (λ x. byte (blocked (s .known) x || false)) =
-    filled-all _ (cells f) (cells f) (s .known) (m .known-long) (omega arith) (λ x lt. byte-back (valueAt (s .known) x) (m .bytes x lt)) in
+        own-bytes (cells f) (s .known) (m .known-long) (m .bytes)
+        ∙ ap (tabulate (cells f)) (fun-ext (λ x. ap byte (or-false (blocked (s .known) x)))) in
     λ t. record { known = sym e t; est = s .est; cell = s .cell }
