@@ -2,7 +2,7 @@
 use Prim.Native.Nat.{ℕ, zero, suc, _+_, _≤_, _<_}
 use mathlib.Core.Path.{_≡_, _∙_, refl, sym, ap}
 use mathlib.Core.Bool.{Bool, true, false}
-use mathlib.Core.List.{List}
+use mathlib.Core.List.{List, [], _∷_}
 use native.Mathlib.Omega.{arith}
 use lib.Dec.{eqb}
 use lib.ListN.{length, getD, set}
@@ -64,3 +64,10 @@ byte-back (suc (suc v)) le = absurd (omega arith)
 pub own-bytes : (n : ℕ) (l : List ℕ) → length l ≡ n → ((x : ℕ) → x < n → valueAt l x ≤ 1) → l ≡ tabulate n (λ x. byte (blocked l x))
 unfolding Filled blocked
 own-bytes n l e h = filled-all _ n n l e (omega arith) (λ x lt. byte-back (valueAt l x) (h x lt))
+
+-- past its end a list reads 0
+pub value-past : (l : List ℕ) (i : ℕ) → length l ≤ i → valueAt l i ≡ 0
+unfolding valueAt
+value-past [] i le = refl
+value-past (a ∷ l) zero le = absurd (omega arith)
+value-past (a ∷ l) (suc i) le = value-past l i (omega arith)

@@ -20,7 +20,7 @@ pub up-some : (m x : ℕ) → upTo m x ≡ true → 0 < x
 unfolding upTo
 up-some m x e = ltb-true 0 x (and-1 _ (leb x m) e)
 
-up-most : (m x : ℕ) → upTo m x ≡ true → x ≤ m
+pub up-most : (m x : ℕ) → upTo m x ≡ true → x ≤ m
 unfolding upTo
 up-most m x e = leb-true x m (and-2 (ltb 0 x) _ e)
 

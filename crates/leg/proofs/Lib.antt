@@ -2,3 +2,5 @@ pub mod Marking
 pub mod Looking
 pub mod Driving
 pub mod Coming
+pub mod Following
+pub mod Running

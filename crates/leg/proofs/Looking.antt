@@ -13,6 +13,7 @@ use Rattle.floor.specs.Floor.{beside, blocked, valueAt}
 use Rattle.floor.proofs.Tools.{both, or-f2}
 use Rattle.rules.specs.Leg.{sense, barred}
 use Rattle.search.specs.Room.{column, routeFrom}
+use Rattle.search.proofs.Tracing.{length-routeFrom}
 use Rattle.leg.specs.Moving.{marked, Marked, firstBlocked, Looked}
 
 module _ (known room : List ℕ) (moves : ℕ) where
@@ -37,19 +38,6 @@ module _ (known room : List ℕ) (moves : ℕ) where
     at-open n = rw (one-more, ← is, ne-eqb (getD known c 0) 1 n, firstBlocked)
 
 -- ---- a blocked cell ahead is found before the end, and the end exactly where there is none
-
-length-routeFrom : (room : List ℕ) (i k : ℕ) → length (routeFrom room i k) ≡ k
-unfolding routeFrom
-length-routeFrom room i zero = refl
-length-routeFrom room i (suc k) = ap suc (length-routeFrom room (i + 1) k)
-
-at-least : (known : ℕ → Bool) (i : ℕ) (ahead : List ℕ) → i ≤ firstBlocked known i ahead
-unfolding firstBlocked
-at-least known i [] = omega arith
-at-least known i (c ∷ ahead) = elim (both (known c)) [
-  | inl e ↦ rw (e, firstBlocked) (omega arith)
-  | inr e ↦ rw (e, firstBlocked) (omega (arith, at-least known (i + 1) ahead))
-]
 
 found : (known : ℕ → Bool) (i : ℕ) (ahead : List ℕ) → ltb (firstBlocked known i ahead) (i + length ahead) ≡ barred known ahead
 unfolding firstBlocked barred

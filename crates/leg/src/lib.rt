@@ -16,6 +16,8 @@ ghost use Rattle.rules.specs.Leg.{sense, barred, drive, ended, driven};
 ghost use Rattle.rules.specs.Request.{legRefusal};
 ghost use Rattle.refusals.specs.Given.{given};
 ghost use Rattle.search.specs.Room.{routeFrom, holding};
+ghost use Rattle.leg.specs.declared.LegAnswer.the-variants.{Done};
+ghost use Rattle.leg.specs.Promise.{LegPromise};
 ghost use Rattle.leg.specs.Moving.{Maps, Marked, firstBlocked, Ahead, Looked, Driven, Came};
 
 // Senses the neighbour of `cell` in a heading: where it is blocked in the plan it becomes blocked in the known map. Answers whether it
@@ -185,5 +187,67 @@ fn follow(
         cell: drove.cell,
         moves: drove.moves as u16,
         opened: opened as u16,
+    }
+}
+
+// What a leg answers: its result, or the refusal's number and the cart as given.
+pub enum LegAnswer {
+    Done(LegDone),
+    Refused(u8, usize),
+}
+
+// A leg for inputs that `check` has passed, in working room that is all zero before and after.
+pub fn run_leg(
+    floor: Floor,
+    plan: &[u8],
+    known: &mut [u8],
+    est: &mut [u16],
+    cart: usize,
+    goal: usize,
+    look: Lookahead,
+    limit: MoveLimit,
+    trail: &mut [u16],
+    room: &mut [u16],
+) -> LegDone
+    requires { ⌜ legRefusal (given floor (now plan) (now known) (now est) cart goal look limit (now trail)) ≡ 0 ⌝ }
+    requires { ⌜ (length (now room) ≡ cells floor * 4) × (now room ≡ holding (length (now room)) []) ⌝ }
+    ensures { λ r. ⌜ LegPromise
+        (given floor (now (plan .entry)) (now (known .entry)) (now (est .entry)) cart goal look limit (now (trail .entry)))
+        (Done r) (now (known .exit)) (now (est .exit)) (now (trail .exit)) ⌝ }
+    ensures { λ r. ⌜ now (room .exit) ≡ holding (length (now (room .entry))) [] ⌝ }
+{
+    if cart == goal {
+        return LegDone {
+            ending: Ending::Arrived,
+            cell: cart as u16,
+            moves: 0,
+            opened: 0,
+        };
+    }
+    sense(floor, plan, known, cart);
+    let planned = search::episode(floor, known, est, room, cart, goal, look);
+    match planned {
+        Planned::CutOff(opened) => {
+            LegDone {
+                ending: Ending::CutOff,
+                cell: cart as u16,
+                moves: 0,
+                opened: opened as u16,
+            }
+        }
+        Planned::Onward(ahead, opened) => {
+            follow(
+                floor,
+                plan,
+                known,
+                room,
+                ahead,
+                cart,
+                goal,
+                limit,
+                trail,
+                opened,
+            )
+        }
     }
 }

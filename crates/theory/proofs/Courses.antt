@@ -131,6 +131,6 @@ pub nothing-gained : (f : Floor) (s : Stand) → Formed f s → gained f (λ x. 
 unfolding gained
 nothing-gained f s m =
     let e : s .known ≡ tabulate (cells f) (λ x. byte (blocked (s .known) x || false)) =
-        own-bytes (cells f) (s .known) (m .known-long) (m .bytes)
-        ∙ ap (tabulate (cells f)) (fun-ext (λ x. ap byte (or-false (blocked (s .known) x)))) in
+    own-bytes (cells f) (s .known) (m .known-long) (m .bytes)
+    ∙ ap (tabulate (cells f)) (fun-ext (λ x. ap byte (or-false (blocked (s .known) x)))) in
     λ t. record { known = sym e t; est = s .est; cell = s .cell }

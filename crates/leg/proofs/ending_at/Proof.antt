@@ -4,8 +4,6 @@ use borrow.Author.Needs.{needs}
 use native.Mathlib.Omega.{arith}
 use Rattle.leg.proofs.ending_at.Statement.{statement}
 use Rattle.leg.proofs.ending_at.Tie as tie
-use Rattle.leg.proofs.ending_at.Reads as reads
-use Rattle.leg.proofs.ending_at.Lts as lts
 
 returns : tie.Need-returns
 unfolding ended

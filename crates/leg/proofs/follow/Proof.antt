@@ -5,11 +5,6 @@ use native.Mathlib.Omega.{arith}
 use borrow.Author.Needs.{needs}
 use Rattle.leg.proofs.follow.Statement.{statement}
 use Rattle.leg.proofs.follow.Tie as tie
-use Rattle.leg.proofs.follow.Reads as reads
-use Rattle.leg.proofs.follow.Lts as lts
-use Rattle.leg.proofs.drive.Reads as drive-reads
-use Rattle.leg.proofs.ending_at.Reads as ending-at-reads
-use Rattle.search.proofs.forget.Reads as forget-reads
 
 drive-requires : tie.Need-drive-requires
 drive-requires c κs = (c .before .before .before .before .before .before .before .pre .0, c .before .before .before .before .before .before .before .pre .1 .0)
@@ -17,23 +12,11 @@ drive-requires c κs = (c .before .before .before .before .before .before .befor
 forget-requires : tie.Need-forget-requires
 forget-requires c κs = (c .before .before .before .before .before .before .before .before .before .before .before .before .before .pre .0 .1 .fits, c .before .before .before .before .before .before .before .before .before .before .before .before .before .pre .1 .1 .2)
 
-ending-at-requires : tie.Need-ending-at-requires
-ending-at-requires c κs = search needs
-
 cast-t22 : tie.Need-cast-t22
 cast-t22 c = omega (arith, moves-short _ _ _ _ _ _ _ _ _ (c .before .before .before .before .before .before .before .before .before .before .drive .ensures), c .before .before .before .before .before .before .before .before .before .before .before .before .before .before .before .before .before .before .pre .1 .1 .0)
 
 cast-t23 : tie.Need-cast-t23
 cast-t23 c = omega (arith, c .before .before .before .before .before .before .before .before .before .before .before .before .before .before .before .before .before .before .pre .1 .1 .1)
-
-same-length : tie.Need-same-length
-same-length c = search needs
-
-same-length-2 : tie.Need-same-length-2
-same-length-2 c = search needs
-
-same-length-3 : tie.Need-same-length-3
-same-length-3 c = search needs
 
 returns : tie.Need-returns
 returns c = (c .before .before .before .before .forget .ensures, came-driven _ _ _ _ _ _ _ _ _ (c .before .before .before .before .before .before .before .before .before .before .drive .ensures) (c .before .ending-at .ensures) refl refl refl)
@@ -44,10 +27,10 @@ follow-spec =
     (tie.spec
     drive-requires
     forget-requires
-    ending-at-requires
+    (λ c κs. search needs)
     cast-t22
     cast-t23
-    same-length
-    same-length-2
-    same-length-3
+    (λ c. search needs)
+    (λ c. search needs)
+    (λ c. search needs)
     returns)
