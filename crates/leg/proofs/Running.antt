@@ -15,8 +15,8 @@ use Rattle.floor.proofs.Tools.{both, and-1, and-2}
 use Rattle.floor.proofs.Boards.{own-values, own-bytes, value-past}
 use Rattle.floor.proofs.Grid.{area, up-most}
 use Rattle.rules.specs.Search.{start, Found, seek, pick}
-use Rattle.rules.specs.Leg.{sense, ours, drive, Leg, stayed, driven, followed, leg, legFrom, left}
-use Rattle.rules.specs.Request.{Request, settingOk, legRefusal, outcome, legOf, legOutcome, numberOf}
+use Rattle.rules.specs.Leg.{sense, ours, drive, Leg, stayed, driven, followed, leg, Stand, legFrom, left}
+use Rattle.rules.specs.Request.{Request, settingOk, walkRefusal, legRefusal, Outcome, outcome, legOf, legOutcome, numberOf}
 use Rattle.theory.proofs.Soundness.{Sound, Within, sound-same}
 use Rattle.theory.proofs.Picks.{Least, Best, pick-best}
 use Rattle.theory.proofs.Seeks.{Sought, sought, seek-count}
@@ -28,7 +28,7 @@ use Rattle.search.specs.declared.Planned.{Planned}
 use Rattle.search.specs.declared.Planned.the-variants as P
 use Rattle.search.specs.Room.{Room, routeFrom, holding}
 use Rattle.search.specs.Episode.{planned, episodeOf, EpisodePromise}
-use Rattle.leg.specs.declared.{LegDone.LegDone, LegAnswer.the-variants.Done}
+use Rattle.leg.specs.declared.{LegDone.LegDone, LegAnswer.the-variants.Done, LegAnswer.the-variants.Refused}
 use Rattle.leg.specs.Moving.{Maps, marked, Marked, Came}
 use Rattle.leg.specs.Promise.{refusedBy, told, LegPromise}
 use Rattle.leg.proofs.Following.{cut, Way, way, raised, way-leg, way-est, way-ahead, way-short, Route, laid}
@@ -183,3 +183,20 @@ module _ (f : Floor) (plan known est : List ℕ) (cart goal : ℕ) (look : Looka
 -- an empty room of one length is one of the other
 pub same-room : (m n : ℕ) → m ≡ n → holding m [] ≡ holding n []
 same-room m n e = ap (λ (k : ℕ). holding k []) e
+
+-- a refusal returns its number, the cart as given and 0 for every other number, and changes nothing
+refused-outcome : (r : Request) (n : ℕ) → (n ≡ 0 → ⊥) → (a b c d : ℕ) (s : Stand) (made : List ℕ)
+    → _≡_ {A = Outcome} (record { refused = n; numbers = 0 ∷ r .stand .cell ∷ 0 ∷ 0 ∷ []; known = r .stand .known; est = r .stand .est; trail = r .trail }) (outcome r n (a ∷ b ∷ c ∷ d ∷ []) s made)
+unfolding outcome
+refused-outcome r zero some a b c d s made = absurd (some refl)
+refused-outcome r (suc n) some a b c d s made = refl
+
+module _ (f : Floor) (plan known est : List ℕ) (cart goal : ℕ) (look : Lookahead) (limit : MoveLimit) (trail : List ℕ) (n : ℕ)
+    (is : n ≡ walkRefusal (limit .0) (given f plan known est cart goal look limit trail)) where
+  pub refuses : (n ≡ 0 → ⊥) → LegPromise (given f plan known est cart goal look limit trail) (Refused n cart) known est trail
+  unfolding given legOutcome legRefusal refusedBy told
+  refuses some = record { gives = rw (← is) (refused-outcome (given f plan known est cart goal look limit trail) n some _ _ _ _ _ _) }
+
+  pub passes : n ≡ 0 → legRefusal (given f plan known est cart goal look limit trail) ≡ 0
+  unfolding given legRefusal
+  passes e = sym is ∙ e

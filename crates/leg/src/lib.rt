@@ -251,3 +251,50 @@ pub fn run_leg(
         }
     }
 }
+
+// Entry: one leg. Any sizes, maps, estimates, cells and settings are answered or refused; a refusal writes nothing.
+pub fn leg(
+    floor: Floor,
+    plan: &[u8],
+    known: &mut [u8],
+    est: &mut [u16],
+    cart: usize,
+    goal: usize,
+    look: Lookahead,
+    limit: MoveLimit,
+    trail: &mut [u16],
+) -> LegAnswer
+    ensures { λ r. ⌜ LegPromise
+        (given floor (now (plan .entry)) (now (known .entry)) (now (est .entry)) cart goal look limit (now (trail .entry)))
+        r (now (known .exit)) (now (est .exit)) (now (trail .exit)) ⌝ }
+{
+    let refused = refusals::check(
+        floor,
+        plan,
+        known,
+        est,
+        cart,
+        goal,
+        look,
+        limit,
+        limit.0,
+        trail,
+    );
+    if refused != 0 {
+        return LegAnswer::Refused(refused, cart);
+    }
+    let n = floor.cells() * search::COLUMNS;
+    let mut room = search::new_room();
+    LegAnswer::Done(run_leg(
+        floor,
+        plan,
+        known,
+        est,
+        cart,
+        goal,
+        look,
+        limit,
+        trail,
+        &mut room[..n],
+    ))
+}
