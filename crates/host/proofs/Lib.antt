@@ -1,0 +1,2 @@
+-- That what the host entry promises allows one outcome alone.
+pub mod Unique
