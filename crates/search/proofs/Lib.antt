@@ -1,3 +1,5 @@
+-- What the room shows and how each step changes it, that together the steps are the rules' search, update and route, and that the promise
+-- is decided.
 pub mod Reading
 pub mod Joining
 pub mod Showing
@@ -9,3 +11,4 @@ pub mod Raising
 pub mod Tracing
 pub mod Holding
 pub mod Planning
+pub mod Unique
