@@ -2,7 +2,7 @@
 // the required figure.
 ghost use mathlib.Core.Path.{_≡_};
 ghost use mathlib.Core.Bool.{true};
-ghost use Prim.Native.Nat.{ℕ, _<_};
+ghost use Prim.Native.Nat.{_<_};
 ghost use lib.ListN.{length};
 ghost use Rattle.floor.specs.Floor.{cells, gap, manhattan, neighbour, sizesOk, PreparePromise, prepared, RequiredPromise};
 

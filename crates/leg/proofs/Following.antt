@@ -1,6 +1,6 @@
 -- A planning episode is what the rules' leg does after sensing: cut off where it is, and onward where it is, by the same route.
 use Prim.Native.Nat.{ℕ, zero, suc, _+_, _-_, _*_, _≤_, _<_}
-use mathlib.Core.Path.{_≡_, _∙_, refl, sym, ap, subst}
+use mathlib.Core.Path.{_≡_, _∙_, refl, sym, ap}
 use mathlib.Core.Logic.{inl, inr}
 use mathlib.Core.Bool.{Bool, true, false, not}
 use mathlib.Core.List.{List, [], _∷_}
@@ -11,16 +11,14 @@ use borrow.Author.Tests.{ltb-true, ltb-false}
 use Rattle.floor.specs.declared.{Floor.Floor, Choice.Choice, Choice.the-variants.Nothing, Choice.the-variants.Take}
 use Rattle.floor.specs.declared.Ending.the-variants.{CutOff}
 use Rattle.floor.specs.Floor.{cells, tabulate, blocked, valueAt}
-use Rattle.floor.proofs.Tools.{both, clash, not-t, or-f1, or-f2}
-use Rattle.rules.specs.Search.{Search, start, Found, seek, pick}
+use Rattle.floor.proofs.Tools.{both, or-f1, or-f2}
+use Rattle.rules.specs.Search.{Search, Found}
 use Rattle.rules.specs.Leg.{sense, raise, ours, route, barred, drive, Leg, stayed, driven, followed}
-use Rattle.theory.proofs.Soundness.{Sound}
-use Rattle.theory.proofs.Picks.{Least, Best, pick-best}
+use Rattle.theory.proofs.Picks.{Least}
 use Rattle.theory.proofs.Seeks.{Sought, sought}
 use Rattle.theory.proofs.Ahead.{length-route, unbarred, on-floor}
-use Rattle.search.specs.declared.Planned.{Planned}
 use Rattle.search.specs.declared.Planned.the-variants as P
-use Rattle.search.specs.Room.{column, routeFrom, holding}
+use Rattle.search.specs.Room.{routeFrom, holding}
 use Rattle.search.specs.Episode.{halted, planned}
 use Rattle.search.proofs.Holding.{route-held, holds-route}
 use Rattle.leg.specs.Moving.{Ahead}

@@ -1,14 +1,14 @@
 -- What an accepted request gives each step of a leg, and that the leg's result is the rules' own outcome.
-use Prim.Native.Nat.{ℕ, zero, suc, _+_, _-_, _*_, _≤_, _<_}
+use Prim.Native.Nat.{ℕ, zero, suc, _*_, _≤_, _<_}
 use mathlib.Core.Path.{_≡_, _∙_, refl, sym, ap, subst}
 use mathlib.Core.Logic.{inl, inr}
-use mathlib.Core.Bool.{Bool, true, false}
-use mathlib.Core.List.{List, [], _∷_, _++_}
+use mathlib.Core.Bool.{Bool, false}
+use mathlib.Core.List.{List, [], _∷_}
 use native.Mathlib.Omega.{arith}
 use lib.Dec.{ltb}
-use lib.ListN.{length, drop}
+use lib.ListN.{length}
 use borrow.Author.Tests.{ltb-true, ltb-false, eq-eqb, ne-eqb}
-use Rattle.floor.specs.declared.{Floor.Floor, Lookahead.Lookahead, MoveLimit.MoveLimit, Choice.Choice}
+use Rattle.floor.specs.declared.{Floor.Floor, Lookahead.Lookahead, MoveLimit.MoveLimit}
 use Rattle.floor.specs.declared.Ending.the-variants.{Arrived, CutOff}
 use Rattle.floor.specs.Floor.{upTo, cells, beside, tabulate, blocked, valueAt, byte}
 use Rattle.floor.proofs.Tools.{both, and-1, and-2}
@@ -26,7 +26,7 @@ use Rattle.theory.proofs.Courses.{allowed}
 use Rattle.refusals.specs.Given.{given}
 use Rattle.search.specs.declared.Planned.{Planned}
 use Rattle.search.specs.declared.Planned.the-variants as P
-use Rattle.search.specs.Room.{Room, routeFrom, holding}
+use Rattle.search.specs.Room.{routeFrom, holding}
 use Rattle.search.specs.Episode.{planned, episodeOf, EpisodePromise}
 use Rattle.leg.specs.declared.{LegDone.LegDone, LegAnswer.the-variants.Done, LegAnswer.the-variants.Refused}
 use Rattle.leg.specs.Moving.{Maps, marked, Marked, Came}
@@ -62,7 +62,7 @@ module _ (f : Floor) (plan known est : List ℕ) (cart goal : ℕ) (look : Looka
   within-most = (up-most 4096 (look .0) (and-1 _ (upTo 4096 (limit .0)) (tested .setting)), up-most 4096 (limit .0) (and-2 (upTo 4096 (look .0)) _ (tested .setting)))
 
   -- a leg that came to the rules' leg, with its estimates, keeps the promise
-  pub promised : (l : Leg) (r : LegDone) (known′ est′ trail′ : List ℕ) → legOf asked ≡ l → Came l r known′ trail trail′ → length known′ ≡ cells f
+  promised : (l : Leg) (r : LegDone) (known′ est′ trail′ : List ℕ) → legOf asked ≡ l → Came l r known′ trail trail′ → length known′ ≡ cells f
       → est′ ≡ tabulate (cells f) (l .est) → LegPromise asked (Done r) known′ est′ trail′
   unfolding given legOutcome outcome left refusedBy told
   promised l r known′ est′ trail′ e c long es = record {

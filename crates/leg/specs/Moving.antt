@@ -1,10 +1,10 @@
 -- What the steps of a leg do to the lent memory. No promise rests on these names: they are what the functions below the entry say of themselves.
-use Prim.Native.Nat.{ℕ, _+_, _-_, _*_, _≤_, _<_}
+use Prim.Native.Nat.{ℕ, _+_, _*_, _≤_, _<_}
 use mathlib.Core.{Path._≡_, Bool.Bool, Bool.true, Bool.false, Bool._&&_, Bool._||_, List.List, List.[], List._∷_, List._++_}
 use lib.ListN.{length, drop}
 use Rattle.floor.specs.{declared.Floor.Floor, Floor.sizesOk, Floor.cells, Floor.blocked, Floor.valueAt}
-use Rattle.rules.specs.Leg.{sense, barred, Drive, drive, last, Leg}
-use Rattle.search.specs.Room.{column, routeFrom}
+use Rattle.rules.specs.Leg.{sense, barred, Drive, last, Leg}
+use Rattle.search.specs.Room.{column}
 use Rattle.leg.specs.declared.{Drove.Drove, LegDone.LegDone}
 
 -- what is asked of plan and known map: of the floor's size, and no byte of the known map above 1

@@ -5,13 +5,14 @@ use floor::Heading;
 use floor::Lookahead;
 use floor::MoveLimit;
 use floor::Step;
+use refusals::check;
 use search::Planned;
 ghost use mathlib.Core.Path.{_≡_};
 ghost use mathlib.Core.Bool.{false};
 ghost use mathlib.Core.List.{[]};
 ghost use Prim.Native.Nat.{ℕ, _+_, _-_, _*_, _≤_, _<_, min};
 ghost use lib.ListN.{length};
-ghost use Rattle.floor.specs.Floor.{cells, beside, neighbour, leadsTo, blocked, valueAt};
+ghost use Rattle.floor.specs.Floor.{cells, beside, neighbour, leadsTo, blocked};
 ghost use Rattle.rules.specs.Leg.{sense, barred, drive, ended, driven};
 ghost use Rattle.rules.specs.Request.{legRefusal};
 ghost use Rattle.refusals.specs.Given.{given};
@@ -161,7 +162,7 @@ pub struct LegDone {
     pub opened: u16,
 }
 
-// Steps f and g over the route of `ahead` cells that the room holds, which is all zero afterwards.
+// Steps f and g over the route of `ahead` cells that the room holds, after a search that opened `count`; the room is all zero afterwards.
 fn follow(
     floor: Floor,
     plan: &[u8],
@@ -172,13 +173,13 @@ fn follow(
     goal: usize,
     limit: MoveLimit,
     trail: &mut [u16],
-    opened: usize,
+    count: usize,
 ) -> LegDone
     requires { ⌜ Maps floor (now plan) (now known) × Ahead floor (now room) ahead × (cart < cells floor) × (limit .0 ≤ length (now trail)) ⌝ }
     requires { ⌜ barred (blocked (now known)) (routeFrom (now room) 0 ahead) ≡ false ⌝ }
-    requires { ⌜ (limit .0 ≤ 4096) × (opened ≤ 4096) × (now room ≡ holding (length (now room)) (routeFrom (now room) 0 ahead)) ⌝ }
+    requires { ⌜ (limit .0 ≤ 4096) × (count ≤ 4096) × (now room ≡ holding (length (now room)) (routeFrom (now room) 0 ahead)) ⌝ }
     ensures { λ r. ⌜ (now (room .exit) ≡ holding (length (now (room .entry))) [])
-        × ((est : ℕ → ℕ) → Came (driven cart goal opened est (drive (sense floor (blocked (now (plan .entry)))) (limit .0) (blocked (now (known .entry))) (routeFrom (now (room .entry)) 0 ahead))) r (now (known .exit)) (now (trail .entry)) (now (trail .exit))) ⌝ }
+        × ((est : ℕ → ℕ) → Came (driven cart goal count est (drive (sense floor (blocked (now (plan .entry)))) (limit .0) (blocked (now (known .entry))) (routeFrom (now (room .entry)) 0 ahead))) r (now (known .exit)) (now (trail .entry)) (now (trail .exit))) ⌝ }
 {
     let drove = drive(floor, plan, known, room, ahead, cart, limit.0, trail);
     search::forget(room, ahead);
@@ -186,7 +187,7 @@ fn follow(
         ending: ending_at(drove.cell, goal),
         cell: drove.cell,
         moves: drove.moves as u16,
-        opened: opened as u16,
+        opened: count as u16,
     }
 }
 
@@ -194,6 +195,19 @@ fn follow(
 pub enum LegAnswer {
     Done(LegDone),
     Refused(u8, usize),
+}
+
+// The result of a leg that makes no move.
+fn stayed(ending: Ending, cart: usize, opened: usize) -> LegDone
+    requires { ⌜ (cart < 65536) × (opened < 65536) ⌝ }
+    ensures { λ r. ⌜ (r .ending ≡ ending) × (r .cell ≡ cart) × (r .moves ≡ 0) × (r .opened ≡ opened) ⌝ }
+{
+    LegDone {
+        ending: ending,
+        cell: cart as u16,
+        moves: 0,
+        opened: opened as u16,
+    }
 }
 
 // A leg for inputs that `check` has passed, in working room that is all zero before and after.
@@ -217,24 +231,12 @@ pub fn run_leg(
     ensures { λ r. ⌜ now (room .exit) ≡ holding (length (now (room .entry))) [] ⌝ }
 {
     if cart == goal {
-        return LegDone {
-            ending: Ending::Arrived,
-            cell: cart as u16,
-            moves: 0,
-            opened: 0,
-        };
+        return stayed(Ending::Arrived, cart, 0);
     }
     sense(floor, plan, known, cart);
     let planned = search::episode(floor, known, est, room, cart, goal, look);
     match planned {
-        Planned::CutOff(opened) => {
-            LegDone {
-                ending: Ending::CutOff,
-                cell: cart as u16,
-                moves: 0,
-                opened: opened as u16,
-            }
-        }
+        Planned::CutOff(opened) => stayed(Ending::CutOff, cart, opened),
         Planned::Onward(ahead, opened) => {
             follow(
                 floor,
@@ -268,7 +270,7 @@ pub fn leg(
         (given floor (now (plan .entry)) (now (known .entry)) (now (est .entry)) cart goal look limit (now (trail .entry)))
         r (now (known .exit)) (now (est .exit)) (now (trail .exit)) ⌝ }
 {
-    let refused = refusals::check(
+    let refused = check(
         floor,
         plan,
         known,
@@ -285,7 +287,7 @@ pub fn leg(
     }
     let n = floor.cells() * search::COLUMNS;
     let mut room = search::new_room();
-    LegAnswer::Done(run_leg(
+    let done = run_leg(
         floor,
         plan,
         known,
@@ -296,5 +298,6 @@ pub fn leg(
         limit,
         trail,
         &mut room[..n],
-    ))
+    );
+    LegAnswer::Done(done)
 }

@@ -1,16 +1,16 @@
 -- What the room shows after one cell's numbers were stored: the cart's cell at the start, a cell that joins, a cell that leaves.
-use Prim.Native.Nat.{ℕ, zero, suc, _+_, _*_, _%_, _≤_, _<_}
+use Prim.Native.Nat.{ℕ, _+_, _*_, _%_, _<_}
 use mathlib.Core.Path.{_≡_, _∙_, refl, sym, ap, subst, fun-ext}
 use mathlib.Core.Logic.{inl, inr}
-use mathlib.Core.Bool.{Bool, true, false, not, _&&_, _||_}
-use mathlib.Core.List.{List, []}
+use mathlib.Core.Bool.{Bool, true, false, not, _&&_}
+use mathlib.Core.List.{List}
 use native.Mathlib.Omega.{arith}
 use lib.Dec.{eqb, leb, ltb}
 use lib.ListN.{length, getD, set}
-use borrow.Author.Tests.{eqb-true, eqb-false, eq-eqb, ne-eqb, lt-leb, le-leb, ltb-true, ltb-false, lt-ltb}
-use Rattle.floor.specs.declared.{Step.the-variants.To, Distance.Distance, Distance.the-variants.Reached, Distance.the-variants.Unreached}
+use borrow.Author.Tests.{eqb-true, eqb-false, eq-eqb, ne-eqb, lt-leb, le-leb, ltb-true, ltb-false}
+use Rattle.floor.specs.declared.{Step.the-variants.To, Distance.Distance}
 use Rattle.floor.specs.Floor.{blocked, valueAt, leadsTo}
-use Rattle.floor.proofs.Tools.{both, clash}
+use Rattle.floor.proofs.Tools.{both}
 use Rattle.rules.specs.Search.{Search, start, falls}
 use Rattle.search.specs.Room.{distanceOf, column, shown, joinedPhase}
 use Rattle.search.specs.Steps.{leaving, joinsAt, joining}
@@ -19,7 +19,7 @@ use Rattle.search.proofs.Joining.{none-joins}
 
 -- ---- two states that agree at each cell
 
-pub record Same (s t : Search) (x : ℕ) : Type 0 where
+record Same (s t : Search) (x : ℕ) : Type 0 where
   pub dist : s .dist x ≡ t .dist x
   pub parent : s .parent x ≡ t .parent x
   pub front : s .front x ≡ t .front x

@@ -7,11 +7,11 @@ use Rattle.floor.specs.{declared.Floor.Floor, Floor.sizesOk, Floor.cells, Floor
 use Rattle.floor.specs.declared.Distance.{Distance, the-variants.Reached, the-variants.Unreached}
 use Rattle.rules.specs.Search.{Search}
 
--- what is asked of the known map and the room that are lent
-pub record Room (f : Floor) (known room : List ℕ) : Type 0 where
+-- what is asked of a list of the floor's cells, known map or estimates, and of the room
+pub record Room (f : Floor) (board room : List ℕ) : Type 0 where
   pub sized : sizesOk f ≡ true
   pub few : cells f ≤ 4096
-  pub known-long : length known ≡ cells f
+  pub board-long : length board ≡ cells f
   pub room-long : length room ≡ cells f * 4
 
 -- the distance that a phase and a number stand for

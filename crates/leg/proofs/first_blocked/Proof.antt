@@ -1,11 +1,12 @@
-use mathlib.Core.Path.{_≡_, _∙_, refl}
+-- What is found from `i` on is what is found from the start on. The measure is the cells still ahead.
 use Prim.Native.Nat.{_-_, _≤_}
+use mathlib.Core.Path.{_≡_, _∙_, refl}
+use native.Mathlib.Omega.{arith}
+use borrow.Author.Needs.{needs}
 use Rattle.floor.specs.Floor.{blocked}
 use Rattle.search.specs.Room.{routeFrom}
 use Rattle.leg.specs.Moving.{firstBlocked}
 use Rattle.leg.proofs.Looking.{at-end, at-blocked, at-open}
-use borrow.Author.Needs.{needs}
-use native.Mathlib.Omega.{arith}
 use Rattle.leg.proofs.first_blocked.Statement.{statement}
 use Rattle.leg.proofs.first_blocked.Tie as tie
 

@@ -1,8 +1,9 @@
+-- The moves are the rules', and the room that held their route is empty again.
 use mathlib.Core.Path.{refl}
-use Rattle.leg.proofs.Driving.{moves-short}
-use Rattle.leg.proofs.Coming.{came-driven}
 use native.Mathlib.Omega.{arith}
 use borrow.Author.Needs.{needs}
+use Rattle.leg.proofs.Driving.{moves-short}
+use Rattle.leg.proofs.Coming.{came-driven}
 use Rattle.leg.proofs.follow.Statement.{statement}
 use Rattle.leg.proofs.follow.Tie as tie
 

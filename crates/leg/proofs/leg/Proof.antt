@@ -1,10 +1,11 @@
-use mathlib.Core.Path.{_∙_, sym, ap}
+-- What `check` refuses is refused; what it passes is run in a room that is empty.
 use Prim.Native.Nat.{ℕ, _*_, _≤_}
-use Rattle.search.proofs.Holding.{part-long, part-empty}
-use Rattle.refusals.specs.Given.{given}
-use Rattle.leg.proofs.Running.{tested, maps, refuses, passes}
+use mathlib.Core.Path.{_∙_, sym, ap}
 use native.Mathlib.Omega.{arith}
 use borrow.Author.Needs.{needs}
+use Rattle.refusals.specs.Given.{given}
+use Rattle.search.proofs.Holding.{part-long, part-empty}
+use Rattle.leg.proofs.Running.{tested, maps, refuses, passes}
 use Rattle.leg.proofs.leg.Statement.{statement}
 use Rattle.leg.proofs.leg.Tie as tie
 

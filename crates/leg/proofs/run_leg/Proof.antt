@@ -1,11 +1,12 @@
-use mathlib.Core.Path.{_≡_, _∙_, refl}
+-- On the goal, cut off or onward, the leg is the rules' own.
 use Prim.Native.Nat.{_<_}
+use mathlib.Core.Path.{_∙_}
+use native.Mathlib.Omega.{arith}
+use borrow.Author.Needs.{needs}
 use Rattle.floor.specs.Floor.{cells}
 use Rattle.refusals.specs.Given.{given}
 use Rattle.leg.proofs.Marking.{maps-kept}
 use Rattle.leg.proofs.Running.{tested, maps, within-most, on-goal, cut-count, cut-off, cut-blank, opened-few, route-laid, went, same-room}
-use native.Mathlib.Omega.{arith}
-use borrow.Author.Needs.{needs}
 use Rattle.leg.proofs.run_leg.Statement.{statement}
 use Rattle.leg.proofs.run_leg.Tie as tie
 
@@ -17,11 +18,11 @@ inside c = tested _ _ _ _ _ _ _ _ _ (c .pre .0) .inside
 on-floor : (c : tie.Start) → c .args .cart < 4096
 on-floor c = omega (arith, inside c, maps _ _ _ _ _ _ _ _ _ (c .pre .0) .few)
 
-cast-t17 : tie.Need-cast-t17
-cast-t17 c = omega (arith, on-floor (c .before .before .before .before .before .before))
+stayed-requires : tie.Need-stayed-requires
+stayed-requires c κs = (omega (arith, on-floor (c .before .before .before .before .before .before)), omega arith)
 
 returns : tie.Need-returns
-returns c = (on-goal _ _ _ _ _ _ _ _ _ (c .before .before .before .before .before .before .pre .0) _ (c .if1 .taken) refl refl refl refl, c .before .before .before .before .before .before .pre .1 .1)
+returns c = (on-goal _ _ _ _ _ _ _ _ _ (c .before .before .before .before .before .before .before .pre .0) _ (c .before .if1 .taken) (c .stayed .ensures .0) (c .stayed .ensures .1) (c .stayed .ensures .2) (c .stayed .ensures .3), c .before .before .before .before .before .before .before .pre .1 .1)
 
 sense-requires : tie.Need-sense-requires
 sense-requires c κs = (maps _ _ _ _ _ _ _ _ _ (c .before .before .before .before .before .before .before .pre .0), inside (c .before .before .before .before .before .before .before))
@@ -31,15 +32,12 @@ unfolding given
 episode-requires c κs =
     let given = c .before .before .before .before .before .before .before .before .before .before .before .before .before in
     let m = maps _ _ _ _ _ _ _ _ _ (given .pre .0) in
-    ((record { sized = m .sized; few = m .few; known-long = omega (arith, m .known-long); room-long = given .pre .1 .0 }, tested _ _ _ _ _ _ _ _ _ (given .pre .0) .est-long, within-most _ _ _ _ _ _ _ _ _ (given .pre .0) .0, inside given), given .pre .1 .1)
+    ((record { sized = m .sized; few = m .few; board-long = omega (arith, m .known-long); room-long = given .pre .1 .0 }, tested _ _ _ _ _ _ _ _ _ (given .pre .0) .est-long, within-most _ _ _ _ _ _ _ _ _ (given .pre .0) .0, inside given), given .pre .1 .1)
 
-cast-t28 : tie.Need-cast-t28
-cast-t28 c = omega (arith, on-floor (c .before .before .before .before .before .before .before .before .before .before .before .before .before .before .before .before .before .before .before .before .before))
-
-cast-t29 : tie.Need-cast-t29
-cast-t29 c =
+stayed-requires-2 : tie.Need-stayed-requires-2
+stayed-requires-2 c κs =
     let p = rw (c .before .planned .given .1) at (c .before .before .before .before .before .before .before .episode .ensures) in
-    omega (arith, cut-count _ _ _ _ _ _ _ _ _ (c .before .before .before .before .before .before .before .before .before .before .before .before .before .before .before .before .before .before .before .before .before .pre .0) (c .before .before .before .before .before .before .before .before .before .before .before .before .before .before .before .if1 .left) _ _ (c .before .before .before .before .before .before .before .before .before .before .before .before .before .sense .ensures) _ _ _ _ p)
+    (omega (arith, on-floor (c .before .before .before .before .before .before .before .before .before .before .before .before .before .before .before .before .before .before .before .before .before)), omega (arith, cut-count _ _ _ _ _ _ _ _ _ (c .before .before .before .before .before .before .before .before .before .before .before .before .before .before .before .before .before .before .before .before .before .pre .0) (c .before .before .before .before .before .before .before .before .before .before .before .before .before .before .before .if1 .left) _ _ (c .before .before .before .before .before .before .before .before .before .before .before .before .before .sense .ensures) _ _ _ _ p))
 
 follow-requires : tie.Need-follow-requires
 unfolding given
@@ -53,11 +51,12 @@ follow-requires c κs =
 
 returns-2 : tie.Need-returns-2
 returns-2 c =
-    let given = c .before .before .before .before .before .before .before .before .before .before .before .before .before .before .before .before .before .before .before .before .before in
-    let p = rw (c .before .planned .given .1) at (c .before .before .before .before .before .before .before .episode .ensures) in
-    let sensed = c .before .before .before .before .before .before .before .before .before .before .before .before .before .sense .ensures in
-    let off = c .before .before .before .before .before .before .before .before .before .before .before .before .before .before .before .if1 .left in
-    (cut-off _ _ _ _ _ _ _ _ _ (given .pre .0) off _ _ sensed _ _ _ _ _ p (omega arith) refl refl refl refl, cut-blank _ _ _ _ _ _ _ _ _ (given .pre .0) off _ _ sensed _ _ _ _ p)
+    let given = c .before .before .before .before .before .before .before .before .before .before .before .before .before .before .before .before .before .before .before .before .before .before in
+    let p = rw (c .before .before .planned .given .1) at (c .before .before .before .before .before .before .before .before .episode .ensures) in
+    let sensed = c .before .before .before .before .before .before .before .before .before .before .before .before .before .before .sense .ensures in
+    let off = c .before .before .before .before .before .before .before .before .before .before .before .before .before .before .before .before .if1 .left in
+    let made = c .stayed2 .ensures in
+    (cut-off _ _ _ _ _ _ _ _ _ (given .pre .0) off _ _ sensed _ _ _ _ _ p (c .before .before .before .before .before .before .before .before .before .before .before .before .before .before .sense .kept .1 .1 .0) (made .0) (made .1) (made .2) (made .3), cut-blank _ _ _ _ _ _ _ _ _ (given .pre .0) off _ _ sensed _ _ _ _ p)
 
 returns-3 : tie.Need-returns-3
 returns-3 c =
@@ -73,13 +72,12 @@ pub run-leg-spec : {M : Type 1} → statement M
 run-leg-spec =
     tie.close
     (tie.spec
-    cast-t17
+    stayed-requires
     returns
     sense-requires
     episode-requires
     (λ c. search needs)
-    cast-t28
-    cast-t29
+    stayed-requires-2
     (λ c. search needs)
     follow-requires
     (λ c. search needs)
