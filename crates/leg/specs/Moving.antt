@@ -4,7 +4,7 @@ use mathlib.Core.{Path._≡_, Bool.Bool, Bool.true, Bool.false, Bool._&&_, Bool.
 use lib.ListN.{length, drop}
 use Rattle.floor.specs.{declared.Floor.Floor, Floor.sizesOk, Floor.cells, Floor.blocked, Floor.valueAt}
 use Rattle.rules.specs.Leg.{sense, barred, Drive, last, Leg}
-use Rattle.search.specs.Room.{column}
+use Rattle.search.specs.Room.{columns, column}
 use Rattle.leg.specs.declared.{Drove.Drove, LegDone.LegDone}
 
 -- what is asked of plan and known map: of the floor's size, and no byte of the known map above 1
@@ -32,7 +32,7 @@ firstBlocked known i (c ∷ ahead) = elim (known c) [ true ↦ i | false ↦ fir
 
 -- what is asked of a room that holds a route of so many moves
 pub record Ahead (f : Floor) (room : List ℕ) (moves : ℕ) : Type 0 where
-  pub fits : moves * 4 ≤ length room
+  pub fits : moves * columns ≤ length room
   pub on-floor : (i : ℕ) → i < moves → column 3 room i < cells f
 
 -- sensed from the cell c, and whether a cell of the route is now known blocked

@@ -16,7 +16,7 @@ ghost use Rattle.floor.specs.Floor.{cells, beside, neighbour, leadsTo, blocked}
 ghost use Rattle.rules.specs.Leg.{sense, barred, drive, ended, driven};
 ghost use Rattle.rules.specs.Request.{legRefusal};
 ghost use Rattle.refusals.specs.Given.{given};
-ghost use Rattle.search.specs.Room.{routeFrom, holding};
+ghost use Rattle.search.specs.Room.{columns, routeFrom, holding};
 ghost use Rattle.leg.specs.declared.LegAnswer.the-variants.{Done};
 ghost use Rattle.leg.specs.Promise.{LegPromise};
 ghost use Rattle.leg.specs.Moving.{Maps, Marked, firstBlocked, Ahead, Looked, Driven, Came};
@@ -224,7 +224,7 @@ pub fn run_leg(
     room: &mut [u16],
 ) -> LegDone
     requires { ⌜ legRefusal (given floor (now plan) (now known) (now est) cart goal look limit (now trail)) ≡ 0 ⌝ }
-    requires { ⌜ (length (now room) ≡ cells floor * 4) × (now room ≡ holding (length (now room)) []) ⌝ }
+    requires { ⌜ (length (now room) ≡ cells floor * columns) × (now room ≡ holding (length (now room)) []) ⌝ }
     ensures { λ r. ⌜ LegPromise
         (given floor (now (plan .entry)) (now (known .entry)) (now (est .entry)) cart goal look limit (now (trail .entry)))
         (Done r) (now (known .exit)) (now (est .exit)) (now (trail .exit)) ⌝ }

@@ -7,12 +7,16 @@ use Rattle.floor.specs.{declared.Floor.Floor, Floor.sizesOk, Floor.cells, Floor
 use Rattle.floor.specs.declared.Distance.{Distance, the-variants.Reached, the-variants.Unreached}
 use Rattle.rules.specs.Search.{Search}
 
+-- the numbers of one cell
+abbrev pub columns : ℕ
+columns = 4
+
 -- what is asked of a list of the floor's cells, known map or estimates, and of the room
 pub record Room (f : Floor) (board room : List ℕ) : Type 0 where
   pub sized : sizesOk f ≡ true
   pub few : cells f ≤ 4096
   pub board-long : length board ≡ cells f
-  pub room-long : length room ≡ cells f * 4
+  pub room-long : length room ≡ cells f * columns
 
 -- the distance that a phase and a number stand for
 unfoldable pub distanceOf : ℕ → ℕ → Distance
@@ -21,7 +25,7 @@ distanceOf (suc p) g = Reached g
 
 -- the j-th number of cell x
 unfoldable pub column : ℕ → List ℕ → ℕ → ℕ
-column j room x = valueAt room (x * 4 + j)
+column j room x = valueAt room (x * columns + j)
 
 -- the search that the room shows
 unfoldable pub shown : List ℕ → Search
@@ -47,7 +51,7 @@ routeFrom room i (suc k) = column 3 room i ∷ routeFrom room (i + 1) k
 
 -- a room of n numbers that holds a route and is zero else
 unfoldable pub held : List ℕ → ℕ → ℕ
-held ahead i = elim (eqb (i % 4) 3) [ true ↦ valueAt ahead (i / 4) | false ↦ 0 ]
+held ahead i = elim (eqb (i % columns) 3) [ true ↦ valueAt ahead (i / columns) | false ↦ 0 ]
 
 unfoldable pub holding : ℕ → List ℕ → List ℕ
 holding n ahead = tabulate n (held ahead)
