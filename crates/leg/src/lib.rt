@@ -93,7 +93,7 @@ fn sense_and_look(
 }
 
 // Where the moves of a leg end: the cart's new cell and the number of moves.
-pub struct Drove {
+struct Drove {
     pub cell: u16,
     pub moves: usize,
 }
