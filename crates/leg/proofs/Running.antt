@@ -23,6 +23,7 @@ use Rattle.theory.proofs.Seeks.{Sought, sought, seek-count}
 use Rattle.theory.proofs.Senses.{sense-senses}
 use Rattle.theory.proofs.Accepts.{Accepted, accepted}
 use Rattle.theory.proofs.Courses.{allowed}
+use Rattle.theory.proofs.Outcomes.{refused-outcome}
 use Rattle.refusals.specs.Given.{given}
 use Rattle.search.specs.declared.Planned.{Planned}
 use Rattle.search.specs.declared.Planned.the-variants as P
@@ -184,18 +185,11 @@ module _ (f : Floor) (plan known est : List ℕ) (cart goal : ℕ) (look : Looka
 pub same-room : (m n : ℕ) → m ≡ n → holding m [] ≡ holding n []
 same-room m n e = ap (λ (k : ℕ). holding k []) e
 
--- a refusal returns its number, the cart as given and 0 for every other number, and changes nothing
-refused-outcome : (r : Request) (n : ℕ) → (n ≡ 0 → ⊥) → (a b c d : ℕ) (s : Stand) (made : List ℕ)
-    → _≡_ {A = Outcome} (record { refused = n; numbers = 0 ∷ r .stand .cell ∷ 0 ∷ 0 ∷ []; known = r .stand .known; est = r .stand .est; trail = r .trail }) (outcome r n (a ∷ b ∷ c ∷ d ∷ []) s made)
-unfolding outcome
-refused-outcome r zero some a b c d s made = absurd (some refl)
-refused-outcome r (suc n) some a b c d s made = refl
-
 module _ (f : Floor) (plan known est : List ℕ) (cart goal : ℕ) (look : Lookahead) (limit : MoveLimit) (trail : List ℕ) (n : ℕ)
     (is : n ≡ walkRefusal (limit .0) (given f plan known est cart goal look limit trail)) where
   pub refuses : (n ≡ 0 → ⊥) → LegPromise (given f plan known est cart goal look limit trail) (Refused n cart) known est trail
   unfolding given legOutcome legRefusal refusedBy told
-  refuses some = record { gives = rw (← is) (refused-outcome (given f plan known est cart goal look limit trail) n some _ _ _ _ _ _) }
+  refuses some = record { gives = rw (← is) (refused-outcome (given f plan known est cart goal look limit trail) n some _ _ _) }
 
   pub passes : n ≡ 0 → legRefusal (given f plan known est cart goal look limit trail) ≡ 0
   unfolding given legRefusal

@@ -17,4 +17,5 @@ pub mod Accepts
 pub mod Courses
 pub mod Sequences
 pub mod Walks
+pub mod Outcomes
 pub mod Demand3

@@ -2,7 +2,7 @@
 use Prim.Native.Nat.{ℕ, zero, suc, _+_, _≤_, _<_}
 use mathlib.Core.Path.{_≡_, refl, subst}
 use mathlib.Core.Logic.{_⊎_, inl, inr, _↔_}
-use mathlib.Core.Bool.{Bool}
+use mathlib.Core.Bool.{Bool, true}
 use mathlib.Core.List.{List}
 use native.Mathlib.Omega.{arith}
 use native.Mathlib.Nat.{add-zero}
@@ -14,7 +14,7 @@ use Rattle.rules.specs.Sound.{Route}
 use Rattle.rules.specs.Leg.{Leg, Stand, Setting}
 use Rattle.floor.specs.declared.Ending.{Ending}
 use Rattle.floor.specs.declared.Ending.the-variants.{Arrived, CutOff, Spent, UnderWay}
-use Rattle.rules.specs.Request.{Request, legRefusal, legOf}
+use Rattle.rules.specs.Request.{Request, settingOk, legRefusal, legOf}
 use Rattle.theory.specs.Promise.{square, again, Lawful, standAt, legAt, Ends, movesTo, LegsKeep}
 use Rattle.theory.proofs.Soundness.{Within, within-facts}
 use Rattle.theory.proofs.Routes.{joined, turned, admissible}
@@ -24,6 +24,26 @@ use Rattle.theory.proofs.Courses.{Set, allowed, Course, fair, by-leg, b
 
 pub start-ready : (moves : ℕ) (r : Request) → Accepted moves r → Set (r .floor) (blocked (r .plan)) (r .goal) (r .stand)
 start-ready moves r a = record { inside = a .inside; aim = a .aim; free = a .free; within = a .within; sound = a .sound }
+
+-- after an accepted request, a leg is accepted from any stand that is ready and well formed, with allowed settings and a trail for them
+pub accepted-still : (moves : ℕ) (r : Request) → Accepted moves r → (s : Stand) → Set (r .floor) (blocked (r .plan)) (r .goal) s → Formed (r .floor) s
+    → (k : Setting) → settingOk k ≡ true → (trail : List ℕ) → k .limit ≤ length trail → legRefusal (again r s k trail) ≡ 0
+unfolding legRefusal again
+accepted-still moves r a s h m k ok trail room = not-refused (k .limit) (again r s k trail) (record {
+  sized = a .sized;
+  plan-long = a .plan-long;
+  known-long = m .known-long;
+  est-long = m .est-long;
+  inside = h .inside;
+  aim = h .aim;
+  setting = ok;
+  room = room;
+  plan-bytes = a .plan-bytes;
+  known-bytes = m .bytes;
+  within = h .within;
+  free = h .free;
+  sound = h .sound;
+})
 
 -- ---- what an ending says of open routes
 
@@ -103,25 +123,7 @@ module _ (r : Request) (gain : ℕ → ℕ → Bool) (setting : ℕ → Setting)
     formed (suc i) = gained-formed f (gain (suc i)) _ (left-formed f (leg i) .est-long)
 
     accepts : (i : ℕ) (trail : List ℕ) → setting i .limit ≤ length trail → legRefusal (again r (at i) (setting i) trail) ≡ 0
-    unfolding legRefusal again
-    accepts i trail room =
-        let s = run i .ready in
-        let m = formed i in
-        not-refused (setting i .limit) (again r (at i) (setting i) trail) (record {
-          sized = a .sized;
-          plan-long = a .plan-long;
-          known-long = m .known-long;
-          est-long = m .est-long;
-          inside = s .inside;
-          aim = s .aim;
-          setting = lawful i .0;
-          room = room;
-          plan-bytes = a .plan-bytes;
-          known-bytes = m .bytes;
-          within = s .within;
-          free = s .free;
-          sound = s .sound;
-        })
+    accepts i trail room = accepted-still (r .setting .limit) r a (at i) (run i .ready) (formed i) (setting i) (lawful i .0) trail room
 
     moves : (i : ℕ) → leg i .ending ≡ UnderWay → 0 < length (leg i .trail)
     moves i e = subst (Ended _ _ _ _ _ _) e (leg-at i (run i .ready) .ends)

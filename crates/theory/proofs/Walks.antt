@@ -15,7 +15,7 @@ use Rattle.floor.specs.declared.Ending.{Ending}
 use Rattle.floor.specs.declared.Ending.the-variants.{Arrived, CutOff, Spent, UnderWay}
 use Rattle.rules.specs.Walk.{Walk, trailOf, openedIn, standing, onward, afterLeg, capped, walking, walk}
 use Rattle.rules.specs.Request.{Request, walkOf}
-use Rattle.theory.specs.Promise.{square, walked, moves, WalkKeeps}
+use Rattle.theory.specs.Promise.{square, WalkKeeps}
 use Rattle.theory.proofs.Soundness.{NoRoute}
 use Rattle.theory.proofs.Routes.{joined, turned, admissible}
 use Rattle.theory.proofs.Sums.{others-off-goal}
@@ -122,10 +122,10 @@ module _ (r : Request) (allowance : ℕ) where
   plan = blocked (r .plan)
 
   abbrev w : Walk
-  w = walked r allowance
+  w = walkOf allowance r
 
   abbrev made : ℕ
-  made = moves r allowance
+  made = length (trailOf (w .legs))
 
   module _ (a : Accepted allowance r) where
     strolled : Strolled (r .setting .look) f plan goal (r .stand) allowance w
@@ -158,10 +158,10 @@ module _ (r : Request) (allowance : ℕ) where
         at Spent o = absurd (unspent big o)
         at UnderWay o = absurd o
 
-    pub walk-keeps : WalkKeeps r allowance
+    pub walk-keeps : WalkKeeps r allowance (w .ending) made (w .stand)
     walk-keeps = record {
       no-estimate-falls = strolled .run .rises;
-      none-passes-a-route = λ x n w. let h = strolled .run .ready in admissible (h .sound) (h .within) w;
+      none-passes-a-route = λ x n v. let h = strolled .run .ready in admissible (h .sound) (h .within) v;
       moves-raise-the-sum = strolled .run .climb;
       moves-bounded = (strolled .keeps, bounded f plan goal (strolled .run));
       never-spent = λ big e. unspent big (subst (Over _ _ _ _ _ _ _) e (strolled .over));

@@ -2,8 +2,8 @@
 use Prim.Native.Nat.{ℕ, zero, suc, _+_, _-_, _*_, _≤_, _<_}
 use mathlib.Core.{Path._≡_, Logic._↔_, Bool.Bool, Bool.true, Bool.false, Bool._||_, List.List, List.[]}
 use lib.{Dec.eqb, ListN.length}
-use Rattle.floor.specs.{declared.Floor.Floor, declared.Ending.the-variants.Arrived, declared.Ending.the-variants.CutOff, declared.Ending.the-variants.Spent, declared.Ending.the-variants.UnderWay, Floor.sizesOk, Floor.cells, Floor.tabulate, Floor.byte, Floor.blocked, Floor.valueAt, Floor.prepared}
-use Rattle.rules.specs.{Sound.Route, Sound.within, Sound.sound, Leg.Leg, Leg.Stand, Leg.Setting, Leg.left, Walk.Walk, Walk.trailOf, Request.Request, Request.settingOk, Request.legRefusal, Request.walkRefusal, Request.legOf, Request.walkOf}
+use Rattle.floor.specs.{declared.Floor.Floor, declared.Ending.Ending, declared.Ending.the-variants.Arrived, declared.Ending.the-variants.CutOff, declared.Ending.the-variants.Spent, declared.Ending.the-variants.UnderWay, Floor.sizesOk, Floor.cells, Floor.tabulate, Floor.byte, Floor.blocked, Floor.valueAt, Floor.prepared}
+use Rattle.rules.specs.{Sound.Route, Sound.within, Sound.sound, Leg.Leg, Leg.Stand, Leg.Setting, Leg.left, Walk.trailOf, Request.Request, Request.settingOk, Request.legRefusal, Request.walkRefusal, Request.legOf, Request.walkOf}
 
 -- before each leg the known map may gain cells, as from another cart
 unfoldable pub gained : Floor → (ℕ → Bool) → Stand → Stand
@@ -65,25 +65,20 @@ module _ (r : Request) where
       pub arrives : (i : ℕ) → Ends i → (legAt i .ending ≡ Arrived) ↔ HasRoute
       pub is-cut-off : (i : ℕ) → Ends i → (legAt i .ending ≡ CutOff) ↔ (HasRoute → ⊥)
 
-  module _ (allowance : ℕ) where
-    abbrev pub walked : Walk
-    walked = walkOf allowance r
-
-    abbrev pub moves : ℕ
-    moves = length (trailOf (walked .legs))
-
-    pub record WalkKeeps : Type 0 where
-      pub no-estimate-falls : (x : ℕ) → x < cells (r .floor) → valueAt (r .stand .est) x ≤ valueAt (walked .stand .est) x
-      pub none-passes-a-route : (x n : ℕ) → RouteFrom x n → valueAt (walked .stand .est) x ≤ n
-      pub moves-raise-the-sum : sumAt (r .stand) + moves ≤ sumAt (walked .stand)
-      pub moves-bounded : (moves ≤ allowance) × (moves ≤ square)
-      pub never-spent : square ≤ allowance → walked .ending ≡ Spent → ⊥
-      pub arrives : square ≤ allowance → (walked .ending ≡ Arrived) ↔ HasRoute
-      pub is-cut-off : square ≤ allowance → (walked .ending ≡ CutOff) ↔ (HasRoute → ⊥)
+  -- of a walk with an allowance, by its ending, its moves and what it leaves
+  pub record WalkKeeps (allowance : ℕ) (ending : Ending) (moves : ℕ) (s : Stand) : Type 0 where
+    pub no-estimate-falls : (x : ℕ) → x < cells (r .floor) → valueAt (r .stand .est) x ≤ valueAt (s .est) x
+    pub none-passes-a-route : (x n : ℕ) → RouteFrom x n → valueAt (s .est) x ≤ n
+    pub moves-raise-the-sum : sumAt (r .stand) + moves ≤ sumAt s
+    pub moves-bounded : (moves ≤ allowance) × (moves ≤ square)
+    pub never-spent : square ≤ allowance → ending ≡ Spent → ⊥
+    pub arrives : square ≤ allowance → (ending ≡ Arrived) ↔ HasRoute
+    pub is-cut-off : square ≤ allowance → (ending ≡ CutOff) ↔ (HasRoute → ⊥)
 
 pub record Demand3 : Type 0 where
   pub legs : (r : Request) → legRefusal r ≡ 0 → (gain : ℕ → ℕ → Bool) (setting : ℕ → Setting)
       → ((i : ℕ) → Lawful r gain setting i) → LegsKeep r gain setting
-  pub walks : (r : Request) (allowance : ℕ) → walkRefusal allowance r ≡ 0 → WalkKeeps r allowance
+  pub walks : (r : Request) (allowance : ℕ) → walkRefusal allowance r ≡ 0
+      → let w = walkOf allowance r in WalkKeeps r allowance (w .ending) (length (trailOf (w .legs))) (w .stand)
   pub prepared-are-sound : (f : Floor) (known : ℕ → Bool) (goal : ℕ) → sizesOk f ≡ true → goal < cells f
       → sound f known (valueAt (prepared f goal)) goal ≡ true
