@@ -5,7 +5,7 @@ use mathlib.Core.Bool.{true, _&&_}
 use native.Mathlib.Omega.{arith}
 use native.Mathlib.Nat.{mod-lt, mul-le-mul, div-lt-iff-lt-mul}
 use lib.Dec.{ltb, leb, eqb}
-use borrow.Author.Tests.{ltb-true, leb-true, eqb-true, lt-ltb}
+use borrow.Author.Tests.{ltb-true, leb-true, eqb-true, lt-ltb, le-leb}
 use Rattle.floor.specs.Floor.{Floor, upTo, sizesOk, cells, gap, manhattan, beside}
 use Rattle.floor.proofs.Tools.{and-1, and-2}
 
@@ -23,6 +23,10 @@ up-some m x e = ltb-true 0 x (and-1 _ (leb x m) e)
 pub up-most : (m x : ℕ) → upTo m x ≡ true → x ≤ m
 unfolding upTo
 up-most m x e = leb-true x m (and-2 (ltb 0 x) _ e)
+
+pub up-to : (m x : ℕ) → 0 < x → x ≤ m → upTo m x ≡ true
+unfolding upTo
+up-to m x some most = rw (lt-ltb 0 x some, le-leb x m most)
 
 pub sides : (f : Floor) → sizesOk f ≡ true → Sides f
 unfolding sizesOk

@@ -8,13 +8,15 @@ use lib.Dec.{eqb}
 use lib.ListN.{length, length-append}
 use borrow.Author.Tests.{eqb-true, eqb-false}
 use Rattle.floor.specs.declared.Floor.{Floor}
-use Rattle.floor.specs.Floor.{cells, blocked, valueAt}
+use Rattle.floor.specs.Floor.{upTo, cells, blocked, valueAt}
+use Rattle.floor.proofs.Tools.{and-1, and-2}
+use Rattle.floor.proofs.Grid.{up-most, up-to}
 use Rattle.rules.specs.Sound.{Route}
 use Rattle.rules.specs.Leg.{ours, Leg, Stand, Setting, legFrom, left}
 use Rattle.floor.specs.declared.Ending.{Ending}
 use Rattle.floor.specs.declared.Ending.the-variants.{Arrived, CutOff, Spent, UnderWay}
 use Rattle.rules.specs.Walk.{Walk, trailOf, openedIn, standing, onward, afterLeg, capped, walking, walk}
-use Rattle.rules.specs.Request.{Request, walkOf}
+use Rattle.rules.specs.Request.{Request, settingOk, walkOf}
 use Rattle.theory.specs.Promise.{square, WalkKeeps}
 use Rattle.theory.proofs.Soundness.{NoRoute}
 use Rattle.theory.proofs.Routes.{joined, turned, admissible}
@@ -84,15 +86,22 @@ module _ (k : Setting) (f : Floor) (plan : ℕ → Bool) (goal : ℕ) where
   turn s room w r go false true e z = rests Spent s room r (sym (eqb-true room 0 z), eqb-false (s .cell) goal e)
   turn s room w r go false false e z = let n : (room ≡ 0 → ⊥) = eqb-false room 0 z in go (omega arith)
 
-  cap : (room : ℕ) → Some k → 0 < room → Some (capped k room)
+  pub cap : (room : ℕ) → Some k → 0 < room → Some (capped k room)
   unfolding capped
   cap room a some = (a .0, omega arith)
 
-  brief : (room : ℕ) (s : Stand) → length (legFrom f plan goal (capped k room) s .trail) ≤ room
+  -- so a leg's setting is allowed as the walk's is
+  pub cap-ok : (room : ℕ) → settingOk k ≡ true → 0 < room → settingOk (capped k room) ≡ true
+  unfolding settingOk capped
+  cap-ok room e some =
+      let most : k .limit ≤ 4096 = up-most 4096 (k .limit) (and-2 (upTo 4096 (k .look)) _ e) in
+      rw (and-1 (upTo 4096 (k .look)) (upTo 4096 (k .limit)) e, up-to 4096 (min (k .limit) room) (cap room (allowed k e) some .1) (omega arith))
+
+  pub brief : (room : ℕ) (s : Stand) → length (legFrom f plan goal (capped k room) s .trail) ≤ room
   unfolding legFrom capped
   brief room s = omega (arith, leg-short ours f plan goal (blocked (s .known)) (valueAt (s .est)) (s .cell) (k .look) (min (k .limit) room))
 
-  few-opened : (room : ℕ) (s : Stand) → legFrom f plan goal (capped k room) s .opened ≤ k .look
+  pub few-opened : (room : ℕ) (s : Stand) → legFrom f plan goal (capped k room) s .opened ≤ k .look
   unfolding legFrom capped
   few-opened room s = leg-opened ours f plan goal (blocked (s .known)) (valueAt (s .est)) (s .cell) (k .look) (min (k .limit) room)
 
