@@ -1,0 +1,5 @@
+pub mod Lending
+pub mod Turning
+pub mod Going
+pub mod Unique
+pub mod Keeping
