@@ -27,7 +27,7 @@ use Rattle.leg.specs.Promise.{LegPromise}
 use Rattle.leg.proofs.Running.{within-most}
 use Rattle.leg.proofs.Telling.{resultOf, Told, tells}
 use Rattle.walk.specs.declared.Tally.{Tally}
-use Rattle.walk.specs.Promise.{counted}
+use Rattle.walk.specs.Promise.{begun, counted}
 use Rattle.walk.proofs.Lending.{lent, trail-length, lent-length, given-back}
 use Rattle.walk.proofs.Turning.{after, with-leg, after-onward, trail-with, opened-with, length-with, on-goal, used-up, cut-off, moves, goes-on}
 
@@ -125,7 +125,7 @@ module _ (f : Floor) (plan known₀ est₀ : List ℕ) (cart goal : ℕ) (look :
       unfolding given
       est-kept = m .formed .est-long ∙ sym (tested .est-long)
 
-    pub begins : Going known₀ est₀ first (record { cell = cart; moves = 0; legs = 0; opened = 0 })
+    pub begins : Going known₀ est₀ first (begun cart)
     unfolding given walkOf walk after trailOf openedIn
     begins = record {
       past = [];

@@ -7,7 +7,10 @@ use Rattle.theory.specs.Promise.{WalkKeeps}
 use Rattle.leg.specs.declared.LegDone.{LegDone}
 use Rattle.walk.specs.declared.{Tally.Tally, WalkDone.WalkDone, WalkAnswer.WalkAnswer, WalkAnswer.the-variants.Done, WalkAnswer.the-variants.Refused}
 
--- the tally with one leg more, which searched, and the result of a walk that ends so
+-- the tally before the first leg, with one leg more, which searched, and the result of a walk that ends so
+abbrev pub begun : ℕ → Tally
+begun cart = record { cell = cart; moves = 0; legs = 0; opened = 0 }
+
 abbrev pub counted : Tally → LegDone → Tally
 counted t leg = record { cell = leg .cell; moves = t .moves + leg .moves; legs = t .legs + 1; opened = t .opened + leg .opened }
 

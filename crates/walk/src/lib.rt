@@ -16,7 +16,7 @@ ghost use Rattle.rules.specs.Request.{walkRefusal};
 ghost use Rattle.refusals.specs.Given.{given};
 ghost use Rattle.search.specs.Room.{columns, holding};
 ghost use Rattle.walk.specs.declared.WalkAnswer.the-variants.{Done};
-ghost use Rattle.walk.specs.Promise.{counted, ended, WalkPromise};
+ghost use Rattle.walk.specs.Promise.{begun, counted, ended, WalkPromise};
 
 // A walk's ending beside the cart's cell, the moves, the legs that searched and the cells opened in all.
 pub struct WalkDone {
@@ -39,6 +39,19 @@ struct Tally {
     pub moves: u32,
     pub legs: u32,
     pub opened: u64,
+}
+
+// The tally before the first leg.
+fn begun(cart: usize) -> Tally
+    requires { ⌜ cart < 65536 ⌝ }
+    ensures { λ r. ⌜ r ≡ begun cart ⌝ }
+{
+    Tally {
+        cell: cart as u16,
+        moves: 0,
+        legs: 0,
+        opened: 0,
+    }
 }
 
 // The tally with one leg more, which searched.
@@ -89,12 +102,7 @@ fn run_walk(
         (Done r) (now (known .exit)) (now (est .exit)) (now (trail .exit)) ⌝ }
     ensures { λ r. ⌜ now (room .exit) ≡ holding (length (now (room .entry))) [] ⌝ }
 {
-    let mut walked = Tally {
-        cell: cart as u16,
-        moves: 0,
-        legs: 0,
-        opened: 0,
-    };
+    let mut walked = begun(cart);
     let ending = loop {
         let cell = walked.cell as usize;
         if cell == goal {

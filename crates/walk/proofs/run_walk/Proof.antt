@@ -24,15 +24,19 @@ abbrev μ-loop : tie.MeasureT-loop
 μ-loop floor plan known₀ est₀ cart goal look limit allowance trail₀ room₀ walked₀ known est trail room walked =
     allowance - walked .moves
 
-cast-t19 : tie.Need-cast-t19 Inv-loop μ-loop
-cast-t19 c = omega (arith, cart-few _ _ _ _ _ _ _ _ _ _ (c .before .before .before .before .before .pre .0))
+-- where the function starts, from the loop's head
+abbrev start : tie.At-loop Inv-loop μ-loop → tie.Start Inv-loop μ-loop
+start h = h .before .before .before .before .before .before .before
+
+begun-requires : tie.Need-begun-requires Inv-loop μ-loop
+begun-requires c κs = cart-few _ _ _ _ _ _ _ _ _ _ (c .before .before .before .before .before .pre .0)
 
 loop-holds : tie.Need-loop-holds Inv-loop μ-loop
-loop-holds c = (begins _ _ _ _ _ _ _ _ _ _ (c .before .before .before .before .before .pre .0), refl)
+loop-holds c = (rw (c .begun .ensures) (begins _ _ _ _ _ _ _ _ _ _ (c .before .before .before .before .before .before .pre .0)), refl)
 
 -- the part of the trail from the moves made on is there to be lent
 unwritten : (c : tie.After-run-leg-arg2 Inv-loop μ-loop) → let here = c .before .before .before .before .before .before .before .loop in here .walked .moves ≤ length (here .trail)
-unwritten c = trail-holds _ _ _ _ _ _ _ _ _ _ (c .before .before .before .before .before .before .before .before .before .before .before .before .before .pre .0) (c .before .before .before .before .before .before .before .loop .inv .0 .made)
+unwritten c = trail-holds _ _ _ _ _ _ _ _ _ _ (start (c .before .before .before .before .before .before .before) .pre .0) (c .before .before .before .before .before .before .before .loop .inv .0 .made)
 
 sub-run-leg : tie.Need-sub-run-leg Inv-loop μ-loop
 sub-run-leg c = omega (arith, unwritten c)
@@ -42,19 +46,19 @@ part-run-leg-start c = omega (arith, unwritten c)
 
 run-leg-requires : tie.Need-run-leg-requires Inv-loop μ-loop
 run-leg-requires c κs =
-    let given = c .before .before .before .before .before .before .before .before .before .before .before .before .before .before .before in
+    let given = start (c .before .before .before .before .before .before .before .before .before) in
     let here = c .before .before .before .before .before .before .before .before .before .loop in
     (accepts _ _ _ _ _ _ _ _ _ _ (given .pre .0) _ _ _ _ (here .inv .0) (c .before .before .before .before .before .before .before .if1 .left) (c .before .before .before .before .before .if2 .left) _ (c .before .before .before .before .lesser .ensures), rw (here .inv .1) (given .pre .1))
 
 -- what the leg makes of the walk
 turn : (c : tie.After-run-leg Inv-loop μ-loop)
-    → let a = c .before .before .before .before .before .before .before .before .before .before .before .before .before .before .before .before .args in
+    → let a = start (c .before .before .before .before .before .before .before .before .before .before) .args in
     let here = c .before .before .before .before .before .before .before .before .before .before .loop in
     let l = c .run-leg in
     Turned (a .floor) (a .plan .now) (a .known .now) (a .est .now) (a .cart) (a .goal) (a .look) (a .limit) (a .allowance) (a .trail .now) (here .walked)
     (l .last .1 .1 .0) (l .last .1 .1 .1 .0) (putMid (here .walked .moves) (length (here .trail) - here .walked .moves) (here .trail) (l .last .1 .1 .1 .1 .1 .1 .1 .1 .0)) (counted (here .walked) (l .result)) (l .result .ending)
 turn c =
-    let given = c .before .before .before .before .before .before .before .before .before .before .before .before .before .before .before .before in
+    let given = start (c .before .before .before .before .before .before .before .before .before .before) in
     let here = c .before .before .before .before .before .before .before .before .before .before .loop in
     let off = c .before .before .before .before .before .before .before .before .if1 .left in
     let unspent = c .before .before .before .before .before .before .if2 .left in
@@ -65,8 +69,8 @@ counted-requires : tie.Need-counted-requires Inv-loop μ-loop
 counted-requires c κs = turn (c .before .before .before .before .before .before .before .before) .totals
 
 -- and the room is left as it was
-emptied : (c : tie.After-run-leg Inv-loop μ-loop) → c .run-leg .last .1 .1 .1 .1 .1 .1 .1 .1 .1 .0 ≡ c .before .before .before .before .before .before .before .before .before .before .before .before .before .before .before .before .args .room .now
-emptied c = c .run-leg .ensures .1 ∙ ap (λ (r : List ℕ). holding (length r) []) (c .before .before .before .before .before .before .before .before .before .before .loop .inv .1) ∙ sym (c .before .before .before .before .before .before .before .before .before .before .before .before .before .before .before .before .pre .1 .1)
+emptied : (c : tie.After-run-leg Inv-loop μ-loop) → c .run-leg .last .1 .1 .1 .1 .1 .1 .1 .1 .1 .0 ≡ start (c .before .before .before .before .before .before .before .before .before .before) .args .room .now
+emptied c = c .run-leg .ensures .1 ∙ ap (λ (r : List ℕ). holding (length r) []) (c .before .before .before .before .before .before .before .before .before .before .loop .inv .1) ∙ sym (start (c .before .before .before .before .before .before .before .before .before .before) .pre .1 .1)
 
 not-cut : (c : tie.At-match-keys2 Inv-loop μ-loop) → c .before .before .before .before .before .before .before .before .before .before .run-leg .result .ending ≡ CutOff → ⊥
 not-cut c e = other (rw e at (c .match .keys2))
@@ -84,12 +88,12 @@ loop-again c = (rw (c .before .counted .ensures) (turn (c .before .before .befor
 
 -- the walk is over
 found : (c : tie.Joined1 Inv-loop μ-loop)
-    → let a = c .before .before .before .before .before .before .before .before .args in
+    → let a = start (c .before .before) .args in
     let now = c .if1 in
     Over (a .floor) (a .plan .now) (a .known .now) (a .est .now) (a .cart) (a .goal) (a .look) (a .limit) (a .allowance) (a .trail .now) (now .known) (now .est) (now .trail) (now .walked) (now .ending)
     × (now .room ≡ a .room .now)
 found c =
-    let given = c .before .before .before .before .before .before .before .before in
+    let given = start (c .before .before) in
     let here = c .before .before .loop in
     elim (c .if1 .came) [
       | inl w ↦ rw (w .1, w .2, w .3, w .4, w .5, w .6) (arrived _ _ _ _ _ _ _ _ _ _ (given .pre .0) _ _ _ _ (here .inv .0) (w .0 .taken), here .inv .1)
@@ -98,19 +102,19 @@ found c =
     ]
 
 same-length : tie.Need-same-length Inv-loop μ-loop
-same-length c = omega (arith, known-kept _ _ _ _ _ _ _ _ _ _ (c .before .before .before .before .before .before .before .before .before .pre .0) (found (c .before) .0 .made))
+same-length c = omega (arith, known-kept _ _ _ _ _ _ _ _ _ _ (start (c .before .before .before) .pre .0) (found (c .before) .0 .made))
 
 same-length-2 : tie.Need-same-length-2 Inv-loop μ-loop
-same-length-2 c = omega (arith, est-kept _ _ _ _ _ _ _ _ _ _ (c .before .before .before .before .before .before .before .before .before .pre .0) (found (c .before) .0 .made))
+same-length-2 c = omega (arith, est-kept _ _ _ _ _ _ _ _ _ _ (start (c .before .before .before) .pre .0) (found (c .before) .0 .made))
 
 same-length-3 : tie.Need-same-length-3 Inv-loop μ-loop
-same-length-3 c = omega (arith, trail-kept _ _ _ _ _ _ _ _ _ _ (c .before .before .before .before .before .before .before .before .before .pre .0) (found (c .before) .0 .made))
+same-length-3 c = omega (arith, trail-kept _ _ _ _ _ _ _ _ _ _ (start (c .before .before .before) .pre .0) (found (c .before) .0 .made))
 
 same-length-4 : tie.Need-same-length-4 Inv-loop μ-loop
 same-length-4 c = omega (arith, ap (λ (r : List ℕ). length r) (found (c .before) .1))
 
 returns : tie.Need-returns Inv-loop μ-loop
-returns c = (rw (c .ended .ensures) (promised _ _ _ _ _ _ _ _ _ _ (c .before .before .before .before .before .before .before .before .before .pre .0) _ _ _ _ _ (found (c .before) .0)), found (c .before) .1 ∙ c .before .before .before .before .before .before .before .before .before .pre .1 .1)
+returns c = (rw (c .ended .ensures) (promised _ _ _ _ _ _ _ _ _ _ (start (c .before .before .before) .pre .0) _ _ _ _ _ (found (c .before) .0)), found (c .before) .1 ∙ start (c .before .before .before) .pre .1 .1)
 
 pub run-walk-spec : {M : Type 1} → statement M
 run-walk-spec =
@@ -118,7 +122,7 @@ run-walk-spec =
     (tie.spec
     Inv-loop
     μ-loop
-    cast-t19
+    begun-requires
     loop-holds
     (λ c. search needs)
     (λ c. search needs)
