@@ -9,7 +9,7 @@ use leg::run_leg;
 use refusals::check;
 ghost use mathlib.Core.Path.{_≡_};
 ghost use mathlib.Core.List.{[]};
-ghost use Prim.Native.Nat.{_+_, _*_, _<_};
+ghost use Prim.Native.Nat.{_+_, _-_, _*_, min, _≤_, _<_};
 ghost use lib.ListN.{length};
 ghost use Rattle.floor.specs.Floor.{cells};
 ghost use Rattle.rules.specs.Request.{walkRefusal};
@@ -80,6 +80,14 @@ fn ended(walked: Tally, ending: Ending) -> WalkDone
     }
 }
 
+// The smaller of the move limit and the moves left.
+fn leg_limit(limit: MoveLimit, allowance: usize, made: usize) -> MoveLimit
+    requires { ⌜ made ≤ allowance ⌝ }
+    ensures { λ r. ⌜ r .0 ≡ min (limit .0) (allowance - made) ⌝ }
+{
+    MoveLimit(lesser(limit.0, allowance - made))
+}
+
 // A walk for inputs that `check` has passed, in working room that is all zero before and after each leg. A leg is lent the part of
 // the trail that is not yet written.
 fn run_walk(
@@ -112,7 +120,7 @@ fn run_walk(
         if made == allowance {
             break Ending::Spent;
         }
-        let most = MoveLimit(lesser(limit.0, allowance - made));
+        let most = leg_limit(limit, allowance, made);
         let leg = run_leg(
             floor,
             plan,

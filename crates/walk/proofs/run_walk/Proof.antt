@@ -48,7 +48,7 @@ run-leg-requires : tie.Need-run-leg-requires Inv-loop μ-loop
 run-leg-requires c κs =
     let given = start (c .before .before .before .before .before .before .before .before .before) in
     let here = c .before .before .before .before .before .before .before .before .before .loop in
-    (accepts _ _ _ _ _ _ _ _ _ _ (given .pre .0) _ _ _ _ (here .inv .0) (c .before .before .before .before .before .before .before .if1 .left) (c .before .before .before .before .before .if2 .left) _ (c .before .before .before .before .lesser .ensures), rw (here .inv .1) (given .pre .1))
+    (accepts _ _ _ _ _ _ _ _ _ _ (given .pre .0) _ _ _ _ (here .inv .0) (c .before .before .before .before .before .before .before .if1 .left) (c .before .before .before .before .before .if2 .left) _ (c .before .before .before .before .leg-limit .ensures), rw (here .inv .1) (given .pre .1))
 
 -- what the leg makes of the walk
 turn : (c : tie.After-run-leg Inv-loop μ-loop)
@@ -62,7 +62,7 @@ turn c =
     let here = c .before .before .before .before .before .before .before .before .before .before .loop in
     let off = c .before .before .before .before .before .before .before .before .if1 .left in
     let unspent = c .before .before .before .before .before .before .if2 .left in
-    let least = c .before .before .before .before .before .lesser .ensures in
+    let least = c .before .before .before .before .before .leg-limit .ensures in
     turned _ _ _ _ _ _ _ _ _ _ (given .pre .0) _ _ _ _ (here .inv .0) off unspent _ least _ _ _ _ (c .run-leg .ensures .0)
 
 counted-requires : tie.Need-counted-requires Inv-loop μ-loop
@@ -98,7 +98,7 @@ found c =
     elim (c .if1 .came) [
       | inl w ↦ rw (w .1, w .2, w .3, w .4, w .5, w .6) (arrived _ _ _ _ _ _ _ _ _ _ (given .pre .0) _ _ _ _ (here .inv .0) (w .0 .taken), here .inv .1)
       | inr (inl w) ↦ rw (w .3, w .4, w .5, w .6, w .7, w .8) (spent _ _ _ _ _ _ _ _ _ _ (given .pre .0) _ _ _ _ (here .inv .0) (w .0 .left) (w .2 .taken), here .inv .1)
-      | inr (inr w) ↦ let leg : tie.After-run-leg Inv-loop μ-loop = record { before = record { before = record { before = record { before = record { before = record { before = record { before = record { before = record { before = c .before; if1 = w .0 }; struct-known2 = w .1 }; if2 = w .2 }; lesser = w .3 }; run-leg-arg = w .4 }; run-leg-arg2 = w .5 }; run-leg-arg3 = w .6 }; run-leg-arg4 = w .7 }; run-leg = w .8 } in rw (w .20, w .21, w .22, w .23, w .24, w .25, w .17 .ensures) (turn leg .cut (w .19 .given .1), emptied leg)
+      | inr (inr w) ↦ let leg : tie.After-run-leg Inv-loop μ-loop = record { before = record { before = record { before = record { before = record { before = record { before = record { before = record { before = record { before = c .before; if1 = w .0 }; struct-known2 = w .1 }; if2 = w .2 }; leg-limit = w .3 }; run-leg-arg = w .4 }; run-leg-arg2 = w .5 }; run-leg-arg3 = w .6 }; run-leg-arg4 = w .7 }; run-leg = w .8 } in rw (w .20, w .21, w .22, w .23, w .24, w .25, w .17 .ensures) (turn leg .cut (w .19 .given .1), emptied leg)
     ]
 
 same-length : tie.Need-same-length Inv-loop μ-loop
@@ -124,7 +124,6 @@ run-walk-spec =
     μ-loop
     begun-requires
     loop-holds
-    (λ c. search needs)
     (λ c. search needs)
     (λ c. search needs)
     (λ c κs. search needs)
