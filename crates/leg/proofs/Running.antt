@@ -15,8 +15,8 @@ use Rattle.floor.proofs.Tools.{both, and-1, and-2}
 use Rattle.floor.proofs.Boards.{own-values, own-bytes, value-past}
 use Rattle.floor.proofs.Grid.{area, up-most}
 use Rattle.rules.specs.Search.{start, Found, seek, pick}
-use Rattle.rules.specs.Leg.{sense, ours, drive, Leg, stayed, driven, followed, leg, Stand, legFrom, left}
-use Rattle.rules.specs.Request.{Request, settingOk, walkRefusal, legRefusal, Outcome, outcome, legOf, legOutcome, numberOf}
+use Rattle.rules.specs.Leg.{sense, ours, drive, Leg, stayed, driven, followed, leg, legFrom, left}
+use Rattle.rules.specs.Request.{Request, settingOk, walkRefusal, legRefusal, outcome, legOf, legOutcome, numberOf}
 use Rattle.theory.proofs.Soundness.{Sound, Within, sound-same}
 use Rattle.theory.proofs.Picks.{Least, Best, pick-best}
 use Rattle.theory.proofs.Seeks.{Sought, sought, seek-count}

@@ -1,11 +1,11 @@
 -- What the promise of a leg that was accepted says: each part of what it gives back is the rules' leg's.
 use Prim.Native.Nat.{ℕ}
 use mathlib.Core.Path.{_≡_, _∙_, refl, ap}
-use mathlib.Core.List.{List, [], _∷_, _++_}
+use mathlib.Core.List.{List, _++_}
 use lib.ListN.{length, drop}
 use Rattle.rules.specs.Leg.{Leg, left}
-use Rattle.rules.specs.Request.{Request, numberOf, legRefusal, Outcome, outcome, legOf, legOutcome}
-use Rattle.theory.proofs.Outcomes.{Alike, alike}
+use Rattle.rules.specs.Request.{Request, legRefusal, Outcome, outcome, legOf, legOutcome}
+use Rattle.theory.proofs.Outcomes.{alike}
 use Rattle.leg.specs.declared.{LegDone.LegDone, LegAnswer.LegAnswer, LegAnswer.the-variants.Done, LegAnswer.the-variants.Refused}
 use Rattle.leg.specs.Promise.{refusedBy, told, LegPromise}
 use Rattle.leg.proofs.Unique.{told-same}

@@ -1,22 +1,22 @@
 -- What holds where a leg of the walk may start, and what the leg makes of it. The legs that are past have been made as the rules make
 -- them; the trail holds their moves, and then what it held at first; and what is left of the rules' walk goes on from here.
-use Prim.Native.Nat.{ℕ, zero, suc, _+_, _-_, _*_, min, _≤_, _<_}
-use mathlib.Core.Path.{_≡_, _∙_, refl, sym, ap, subst}
-use mathlib.Core.Bool.{Bool, true}
-use mathlib.Core.List.{List, [], _++_, append-nil}
+use Prim.Native.Nat.{ℕ, suc, _+_, _-_, _*_, min, _≤_, _<_}
+use mathlib.Core.Path.{_≡_, _∙_, refl, sym, ap}
+use mathlib.Core.Bool.{Bool}
+use mathlib.Core.List.{List, [], _++_}
 use native.Mathlib.Omega.{arith}
 use native.Mathlib.Nat.{mul-le-mul}
 use lib.ListN.{length, drop, length-append}
 use borrow.Rule.Slice.PartMut.{putMid}
 use Rattle.floor.specs.declared.{Floor.Floor, Lookahead.Lookahead, MoveLimit.MoveLimit, Ending.Ending}
 use Rattle.floor.specs.declared.Ending.the-variants.{Arrived, CutOff, Spent}
-use Rattle.floor.specs.Floor.{upTo, cells, blocked, valueAt}
+use Rattle.floor.specs.Floor.{cells, blocked, valueAt}
 use Rattle.floor.proofs.Grid.{area}
 use Rattle.rules.specs.Leg.{Leg, Stand, Setting, legFrom, left}
-use Rattle.rules.specs.Walk.{Walk, trailOf, openedIn, standing, onward, capped, walking, walk}
-use Rattle.rules.specs.Request.{Request, settingOk, walkRefusal, legRefusal, legOf, walkOf}
+use Rattle.rules.specs.Walk.{trailOf, openedIn, standing, capped, walking, walk}
+use Rattle.rules.specs.Request.{Request, walkRefusal, legRefusal, legOf, walkOf}
 use Rattle.theory.specs.Promise.{again}
-use Rattle.theory.proofs.Legs.{Ended, Fair}
+use Rattle.theory.proofs.Legs.{Fair}
 use Rattle.theory.proofs.Accepts.{Accepted, accepted}
 use Rattle.theory.proofs.Courses.{Some, allowed, Course, fair, at-rest, by-leg, both-runs, bounded, Formed, left-formed}
 use Rattle.theory.proofs.Sequences.{start-ready, accepted-still}

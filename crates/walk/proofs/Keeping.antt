@@ -1,21 +1,20 @@
 -- What was made keeps the walk's promise, and what keeps the promise keeps demand 3.
 use Prim.Native.Nat.{ℕ}
-use mathlib.Core.Path.{_≡_, _∙_, refl, sym, ap, subst}
+use mathlib.Core.Path.{_≡_, _∙_, sym, ap, subst}
 use mathlib.Core.List.{List, [], _∷_, _++_, append-nil}
 use lib.ListN.{length, drop}
 use Rattle.floor.specs.declared.{Floor.Floor, Lookahead.Lookahead, MoveLimit.MoveLimit, Ending.Ending}
-use Rattle.rules.specs.Leg.{Leg, Stand}
 use Rattle.rules.specs.Walk.{Walk, trailOf, openedIn, standing}
 use Rattle.rules.specs.Request.{Request, numberOf, walkRefusal, Outcome, outcome, walkOf, walkOutcome}
 use Rattle.theory.specs.Promise.{WalkKeeps, Demand3}
-use Rattle.theory.proofs.Outcomes.{refused-outcome, Alike, alike}
+use Rattle.theory.proofs.Outcomes.{refused-outcome, alike}
 use Rattle.theory.proofs.Demand3.{demand3}
 use Rattle.refusals.specs.Given.{given}
-use Rattle.walk.specs.declared.{Tally.Tally, WalkDone.WalkDone, WalkAnswer.WalkAnswer, WalkAnswer.the-variants.Done, WalkAnswer.the-variants.Refused}
+use Rattle.walk.specs.declared.{Tally.Tally, WalkDone.WalkDone, WalkAnswer.the-variants.Done, WalkAnswer.the-variants.Refused}
 use Rattle.walk.specs.Promise as walks
-use Rattle.walk.specs.Promise.{ended, refusedBy, told, WalkPromise, Kept}
+use Rattle.walk.specs.Promise.{ended, refusedBy, told, WalkPromise}
 use Rattle.walk.proofs.Turning.{after}
-use Rattle.walk.proofs.Going.{Made, Over}
+use Rattle.walk.proofs.Going.{Over}
 use Rattle.walk.proofs.Unique.{told-same}
 
 -- the result that stands for the walk w

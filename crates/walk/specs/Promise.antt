@@ -2,7 +2,7 @@
 use Prim.Native.Nat.{ℕ, _+_}
 use mathlib.Core.{Path._≡_, List.List, List.[], List._∷_}
 use Rattle.floor.specs.declared.Ending.{Ending}
-use Rattle.rules.specs.{Leg.Stand, Request.Request, Request.numberOf, Request.walkRefusal, Request.Outcome, Request.walkOutcome}
+use Rattle.rules.specs.{Request.Request, Request.numberOf, Request.walkRefusal, Request.Outcome, Request.walkOutcome}
 use Rattle.theory.specs.Promise.{WalkKeeps}
 use Rattle.leg.specs.declared.LegDone.{LegDone}
 use Rattle.walk.specs.declared.{Tally.Tally, WalkDone.WalkDone, WalkAnswer.WalkAnswer, WalkAnswer.the-variants.Done, WalkAnswer.the-variants.Refused}

@@ -10,6 +10,7 @@ use borrow.Author.Needs.{needs}
 use borrow.Rule.Slice.PartMut.{putMid}
 use Rattle.floor.specs.declared.Ending.the-variants.{CutOff}
 use Rattle.search.specs.Room.{holding}
+use Rattle.walk.specs.declared.Tally.{Tally}
 use Rattle.walk.specs.Promise.{counted}
 use Rattle.walk.proofs.Going.{Going, Over, Turned, cart-few, known-kept, est-kept, trail-kept, trail-holds, begins, arrived, spent, accepts, turned}
 use Rattle.walk.proofs.Keeping.{promised}
@@ -50,23 +51,26 @@ run-leg-requires c κs =
     let here = c .before .before .before .before .before .before .before .before .before .loop in
     (accepts _ _ _ _ _ _ _ _ _ _ (given .pre .0) _ _ _ _ (here .inv .0) (c .before .before .before .before .before .before .before .if1 .left) (c .before .before .before .before .before .if2 .left) _ (c .before .before .before .before .leg-limit .ensures), rw (here .inv .1) (given .pre .1))
 
--- what the leg makes of the walk
-turn : (c : tie.After-run-leg Inv-loop μ-loop)
-    → let a = start (c .before .before .before .before .before .before .before .before .before .before) .args in
+-- what the leg has made of the walk, by the tally after it
+abbrev After : tie.After-run-leg Inv-loop μ-loop → Tally → Type 0
+After c t =
+    let a = start (c .before .before .before .before .before .before .before .before .before .before) .args in
     let here = c .before .before .before .before .before .before .before .before .before .before .loop in
     let l = c .run-leg in
-    Turned (a .floor) (a .plan .now) (a .known .now) (a .est .now) (a .cart) (a .goal) (a .look) (a .limit) (a .allowance) (a .trail .now) (here .walked)
-    (l .last .1 .1 .0) (l .last .1 .1 .1 .0) (putMid (here .walked .moves) (length (here .trail) - here .walked .moves) (here .trail) (l .last .1 .1 .1 .1 .1 .1 .1 .1 .0)) (counted (here .walked) (l .result)) (l .result .ending)
-turn c =
-    let given = start (c .before .before .before .before .before .before .before .before .before .before) in
+    let trail = putMid (here .walked .moves) (length (here .trail) - here .walked .moves) (here .trail) (l .last .1 .1 .1 .1 .1 .1 .1 .1 .0) in
+    Turned (a .floor) (a .plan .now) (a .known .now) (a .est .now) (a .cart) (a .goal) (a .look) (a .limit) (a .allowance) (a .trail .now)
+    (here .walked) (l .last .1 .1 .0) (l .last .1 .1 .1 .0) trail t (l .result .ending)
+
+leg-made : (c : tie.After-run-leg Inv-loop μ-loop) → After c (counted (c .before .before .before .before .before .before .before .before .before .before .loop .walked) (c .run-leg .result))
+leg-made c =
     let here = c .before .before .before .before .before .before .before .before .before .before .loop in
-    let off = c .before .before .before .before .before .before .before .before .if1 .left in
-    let unspent = c .before .before .before .before .before .before .if2 .left in
-    let least = c .before .before .before .before .before .leg-limit .ensures in
-    turned _ _ _ _ _ _ _ _ _ _ (given .pre .0) _ _ _ _ (here .inv .0) off unspent _ least _ _ _ _ (c .run-leg .ensures .0)
+    turned _ _ _ _ _ _ _ _ _ _ (start (c .before .before .before .before .before .before .before .before .before .before) .pre .0) _ _ _ _ (here .inv .0) (c .before .before .before .before .before .before .before .before .if1 .left) (c .before .before .before .before .before .before .if2 .left) _ (c .before .before .before .before .before .leg-limit .ensures) _ _ _ _ (c .run-leg .ensures .0)
 
 counted-requires : tie.Need-counted-requires Inv-loop μ-loop
-counted-requires c κs = turn (c .before .before .before .before .before .before .before .before) .totals
+counted-requires c κs = leg-made (c .before .before .before .before .before .before .before .before) .totals
+
+turn : (c : tie.After-counted Inv-loop μ-loop) → After (c .before .before .before .before .before .before .before .before .before) (c .counted .result)
+turn c = rw (c .counted .ensures) (leg-made (c .before .before .before .before .before .before .before .before .before))
 
 -- and the room is left as it was
 emptied : (c : tie.After-run-leg Inv-loop μ-loop) → c .run-leg .last .1 .1 .1 .1 .1 .1 .1 .1 .1 .0 ≡ start (c .before .before .before .before .before .before .before .before .before .before) .args .room .now
@@ -81,10 +85,10 @@ not-cut c e = other (rw e at (c .match .keys2))
     other (inr (inr z)) = omega arith
 
 loop-less : tie.Need-loop-less Inv-loop μ-loop
-loop-less c = rw (c .before .counted .ensures) (turn (c .before .before .before .before .before .before .before .before .before .before) .going (not-cut c) .0)
+loop-less c = turn (c .before) .going (not-cut c) .0
 
 loop-again : tie.Need-loop-again Inv-loop μ-loop
-loop-again c = (rw (c .before .counted .ensures) (turn (c .before .before .before .before .before .before .before .before .before .before) .going (not-cut c) .1), emptied (c .before .before .before .before .before .before .before .before .before .before))
+loop-again c = (turn (c .before) .going (not-cut c) .1, emptied (c .before .before .before .before .before .before .before .before .before .before))
 
 -- the walk is over
 found : (c : tie.Joined1 Inv-loop μ-loop)
@@ -98,7 +102,9 @@ found c =
     elim (c .if1 .came) [
       | inl w ↦ rw (w .1, w .2, w .3, w .4, w .5, w .6) (arrived _ _ _ _ _ _ _ _ _ _ (given .pre .0) _ _ _ _ (here .inv .0) (w .0 .taken), here .inv .1)
       | inr (inl w) ↦ rw (w .3, w .4, w .5, w .6, w .7, w .8) (spent _ _ _ _ _ _ _ _ _ _ (given .pre .0) _ _ _ _ (here .inv .0) (w .0 .left) (w .2 .taken), here .inv .1)
-      | inr (inr w) ↦ let leg : tie.After-run-leg Inv-loop μ-loop = record { before = record { before = record { before = record { before = record { before = record { before = record { before = record { before = record { before = c .before; if1 = w .0 }; struct-known2 = w .1 }; if2 = w .2 }; leg-limit = w .3 }; run-leg-arg = w .4 }; run-leg-arg2 = w .5 }; run-leg-arg3 = w .6 }; run-leg-arg4 = w .7 }; run-leg = w .8 } in rw (w .20, w .21, w .22, w .23, w .24, w .25, w .17 .ensures) (turn leg .cut (w .19 .given .1), emptied leg)
+      | inr (inr w) ↦
+          let last : tie.After-counted Inv-loop μ-loop = record { before = record { before = record { before = record { before = record { before = record { before = record { before = record { before = record { before = record { before = record { before = record { before = record { before = record { before = record { before = record { before = record { before = record { before = c .before; if1 = w .0 }; struct-known2 = w .1 }; if2 = w .2 }; leg-limit = w .3 }; run-leg-arg = w .4 }; run-leg-arg2 = w .5 }; run-leg-arg3 = w .6 }; run-leg-arg4 = w .7 }; run-leg = w .8 }; known = w .9 }; slice-known5 = w .10 }; est = w .11 }; slice-known6 = w .12 }; trail = w .13 }; slice-known7 = w .14 }; room = w .15 }; slice-known8 = w .16 }; counted = w .17 } in
+          rw (w .20, w .21, w .22, w .23, w .24, w .25) (turn last .cut (w .19 .given .1), emptied (last .before .before .before .before .before .before .before .before .before))
     ]
 
 same-length : tie.Need-same-length Inv-loop μ-loop
