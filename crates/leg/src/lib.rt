@@ -99,7 +99,7 @@ struct Drove {
 }
 
 // The lesser of two numbers.
-pub fn lesser(a: usize, b: usize) -> usize
+fn lesser(a: usize, b: usize) -> usize
     ensures { λ r. ⌜ r ≡ min a b ⌝ }
 {
     if a < b {

@@ -4,7 +4,6 @@ use floor::Floor;
 use floor::Lookahead;
 use floor::MoveLimit;
 use leg::LegDone;
-use leg::lesser;
 use leg::run_leg;
 use refusals::check;
 ghost use mathlib.Core.Path.{_≡_};
@@ -85,7 +84,11 @@ fn leg_limit(limit: MoveLimit, allowance: usize, made: usize) -> MoveLimit
     requires { ⌜ made ≤ allowance ⌝ }
     ensures { λ r. ⌜ r .0 ≡ min (limit .0) (allowance - made) ⌝ }
 {
-    MoveLimit(lesser(limit.0, allowance - made))
+    let left = allowance - made;
+    if limit.0 < left {
+        return limit;
+    }
+    MoveLimit(left)
 }
 
 // A walk for inputs that `check` has passed, in working room that is all zero before and after each leg. A leg is lent the part of
