@@ -27,7 +27,7 @@ use Rattle.leg.specs.Promise.{LegPromise}
 use Rattle.leg.proofs.Running.{within-most}
 use Rattle.leg.proofs.Telling.{resultOf, Told, tells}
 use Rattle.walk.specs.declared.Tally.{Tally}
-use Rattle.walk.specs.Promise.{begun, counted}
+use Rattle.walk.specs.Counting.{begun, counted}
 use Rattle.walk.proofs.Lending.{lent, trail-length, lent-length, given-back}
 use Rattle.walk.proofs.Turning.{after, with-leg, after-onward, trail-with, opened-with, length-with, on-goal, used-up, cut-off, moves, goes-on}
 

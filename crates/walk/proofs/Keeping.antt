@@ -5,14 +5,14 @@ use mathlib.Core.List.{List, [], _∷_, _++_, append-nil}
 use lib.ListN.{length, drop}
 use Rattle.floor.specs.declared.{Floor.Floor, Lookahead.Lookahead, MoveLimit.MoveLimit, Ending.Ending}
 use Rattle.rules.specs.Walk.{Walk, trailOf, openedIn, standing}
-use Rattle.rules.specs.Request.{Request, numberOf, walkRefusal, Outcome, outcome, walkOf, walkOutcome}
+use Rattle.rules.specs.Request.{Request, numberOf, walkRefusal, outcome, walkOf, walkOutcome}
 use Rattle.theory.specs.Promise.{WalkKeeps, Demand3}
 use Rattle.theory.proofs.Outcomes.{refused-outcome, alike}
 use Rattle.theory.proofs.Demand3.{demand3}
 use Rattle.refusals.specs.Given.{given}
 use Rattle.walk.specs.declared.{Tally.Tally, WalkDone.WalkDone, WalkAnswer.the-variants.Done, WalkAnswer.the-variants.Refused}
-use Rattle.walk.specs.Promise as walks
-use Rattle.walk.specs.Promise.{ended, refusedBy, told, WalkPromise}
+use Rattle.walk.specs.Counting.{ended}
+use Rattle.walk.specs.Promise.{refusedBy, told, WalkPromise, WalksKeep}
 use Rattle.walk.proofs.Turning.{after}
 use Rattle.walk.proofs.Going.{Over}
 use Rattle.walk.proofs.Unique.{told-same}
@@ -28,15 +28,8 @@ resultOf w = record {
 }
 
 accepted-outcome : (allowance : ℕ) (r : Request) → walkRefusal allowance r ≡ 0
-    → let w = walkOf allowance r in
-    _≡_ {A = Outcome} (walkOutcome allowance r) (record {
-      refused = 0;
-      numbers = told (Done (resultOf w));
-      known = w .stand .known;
-      est = w .stand .est;
-      trail = trailOf (w .legs) ++ drop (length (trailOf (w .legs))) (r .trail);
-    })
-unfolding told resultOf walkOutcome outcome
+    → let w = walkOf allowance r in walkOutcome allowance r ≡ outcome r 0 (told (Done (resultOf w))) (w .stand) (trailOf (w .legs))
+unfolding told resultOf walkOutcome
 accepted-outcome allowance r ok = rw ok
 
 module _ (f : Floor) (plan known₀ est₀ : List ℕ) (cart goal : ℕ) (look : Lookahead) (limit : MoveLimit) (allowance : ℕ) (first : List ℕ) where
@@ -53,7 +46,7 @@ module _ (f : Floor) (plan known₀ est₀ : List ℕ) (cart goal : ℕ) (look :
     walk-is = o .walk-is ∙ (λ i. record { ending = e; stand = w .stand; legs = append-nil (o .past) i })
 
     pub promised : WalkPromise allowance asked (Done (ended t e)) known est trail
-    unfolding given refusedBy told resultOf
+    unfolding given refusedBy told resultOf outcome
     promised =
         let m = o .made in
         record {
@@ -75,8 +68,8 @@ module _ (f : Floor) (plan known₀ est₀ : List ℕ) (cart goal : ℕ) (look :
     pub passes : n ≡ 0 → walkRefusal allowance asked ≡ 0
     passes e = sym is ∙ e
 
-pub demand3-kept : walks.Demand3
-unfolding resultOf refusedBy
+pub demand3-kept : WalksKeep
+unfolding resultOf refusedBy outcome
 demand3-kept = record {
   walks = λ {allowance = allowance} {r = r} {answer = a} ok p.
       let same = alike (p .gives ∙ accepted-outcome allowance r ok) in

@@ -15,7 +15,8 @@ ghost use Rattle.rules.specs.Request.{walkRefusal};
 ghost use Rattle.refusals.specs.Given.{given};
 ghost use Rattle.search.specs.Room.{columns, holding};
 ghost use Rattle.walk.specs.declared.WalkAnswer.the-variants.{Done};
-ghost use Rattle.walk.specs.Promise.{begun, counted, ended, WalkPromise};
+ghost use Rattle.walk.specs.Counting.{begun, counted, ended};
+ghost use Rattle.walk.specs.Promise.{WalkPromise};
 
 // A walk's ending beside the cart's cell, the moves, the legs that searched and the cells opened in all.
 pub struct WalkDone {

@@ -11,7 +11,7 @@ use borrow.Rule.Slice.PartMut.{putMid}
 use Rattle.floor.specs.declared.Ending.the-variants.{CutOff}
 use Rattle.search.specs.Room.{holding}
 use Rattle.walk.specs.declared.Tally.{Tally}
-use Rattle.walk.specs.Promise.{counted}
+use Rattle.walk.specs.Counting.{counted}
 use Rattle.walk.proofs.Going.{Going, Over, Turned, cart-few, known-kept, est-kept, trail-kept, trail-holds, begins, arrived, spent, accepts, turned}
 use Rattle.walk.proofs.Keeping.{promised}
 use Rattle.walk.proofs.run_walk.Statement.{statement}
