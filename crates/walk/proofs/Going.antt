@@ -56,8 +56,8 @@ module _ (f : Floor) (plan known₀ est₀ : List ℕ) (cart goal : ℕ) (look :
   abbrev asked : Request
   asked = given f plan known₀ est₀ cart goal look limit first
 
-  abbrev open-plan : ℕ → Bool
-  open-plan = blocked plan
+  abbrev truth : ℕ → Bool
+  truth = blocked plan
 
   abbrev k : Setting
   k = record { look = look .0; limit = limit .0 }
@@ -65,7 +65,7 @@ module _ (f : Floor) (plan known₀ est₀ : List ℕ) (cart goal : ℕ) (look :
   abbrev stand : List ℕ → List ℕ → ℕ → Stand
   stand known est cell = record { known = known; est = est; cell = cell }
 
-  -- what the legs that are past have made
+  -- what the legs that are past have made; the trail holds their moves, and after them what it held at first
   pub record Made (past : List Leg) (known est trail : List ℕ) (t : Tally) : Type 0 where
     pub moved : length (trailOf past) ≡ t .moves
     pub searched : length past ≡ t .legs
@@ -74,13 +74,14 @@ module _ (f : Floor) (plan known₀ est₀ : List ℕ) (cart goal : ℕ) (look :
     pub formed : Formed f (stand known est (t .cell))
     pub written : trail ≡ trailOf past ++ drop (t .moves) first
 
+  -- what is left of the rules' walk goes on from here; it may still be deeper than there are moves left
   pub record Going (known est trail : List ℕ) (t : Tally) : Type 0 where
     pub past : List Leg
     pub made : Made past known est trail t
     pub depth : ℕ
     pub deep : allowance - t .moves < depth
-    pub walk-is : walkOf allowance asked ≡ after past (walking f open-plan goal k depth (allowance - t .moves) (stand known est (t .cell)))
-    pub course : Course f open-plan goal (stand known₀ est₀ cart) (stand known est (t .cell)) (t .moves)
+    pub walk-is : walkOf allowance asked ≡ after past (walking f truth goal k depth (allowance - t .moves) (stand known est (t .cell)))
+    pub course : Course f truth goal (stand known₀ est₀ cart) (stand known est (t .cell)) (t .moves)
     pub few : t .legs ≤ t .moves
     pub scant : t .opened ≤ t .legs * 4096
 
@@ -140,7 +141,7 @@ module _ (f : Floor) (plan known₀ est₀ : List ℕ) (cart goal : ℕ) (look :
       depth = suc allowance;
       deep = omega arith;
       walk-is = let e : allowance - 0 ≡ allowance = omega arith in rw e;
-      course = at-rest f open-plan goal (stand known₀ est₀ cart) (start-ready allowance asked tested);
+      course = at-rest f truth goal (stand known₀ est₀ cart) (start-ready allowance asked tested);
       few = omega arith;
       scant = omega arith;
     }
@@ -149,14 +150,14 @@ module _ (f : Floor) (plan known₀ est₀ : List ℕ) (cart goal : ℕ) (look :
       pub arrived : t .cell ≡ goal → Over known est trail t Arrived
       arrived e = record {
         past = g .past;
-        walk-is = g .walk-is ∙ ap (after (g .past)) (on-goal f open-plan goal k (g .depth) _ (stand known est (t .cell)) (g .deep) e);
+        walk-is = g .walk-is ∙ ap (after (g .past)) (on-goal f truth goal k (g .depth) _ (stand known est (t .cell)) (g .deep) e);
         made = g .made;
       }
 
       pub spent : (t .cell ≡ goal → ⊥) → t .moves ≡ allowance → Over known est trail t Spent
       spent off e = record {
         past = g .past;
-        walk-is = g .walk-is ∙ ap (after (g .past)) (used-up f open-plan goal k (g .depth) _ (stand known est (t .cell)) (g .deep) off (omega arith));
+        walk-is = g .walk-is ∙ ap (after (g .past)) (used-up f truth goal k (g .depth) _ (stand known est (t .cell)) (g .deep) off (omega arith));
         made = g .made;
       }
 
@@ -169,7 +170,7 @@ module _ (f : Floor) (plan known₀ est₀ : List ℕ) (cart goal : ℕ) (look :
         room = allowance - t .moves
 
         abbrev l : Leg
-        l = legFrom f open-plan goal (capped k room) s
+        l = legFrom f truth goal (capped k room) s
 
         abbrev next : Request
         next = given f plan known est (t .cell) goal look most (lent (t .moves) trail)
@@ -185,11 +186,11 @@ module _ (f : Floor) (plan known₀ est₀ : List ℕ) (cart goal : ℕ) (look :
         pub accepts : legRefusal next ≡ 0
         unfolding given again capped
         accepts = accepted-still allowance asked tested s (g .course .ready) (g .made .formed) (record { look = look .0; limit = most .0 })
-            (rw least (cap-ok k f open-plan goal room (tested .setting) some)) (lent (t .moves) trail)
+            (rw least (cap-ok k f truth goal room (tested .setting) some)) (lent (t .moves) trail)
             (rw (least, lent-length first trail (trailOf (g .past)) (t .moves) (g .made .moved) (reach (g .made)) (g .made .written)) (least-fits (limit .0) allowance (t .moves) (length first) (tested .room)))
 
-        fair-leg : Fair f open-plan goal (blocked known) (valueAt est) (t .cell) l
-        fair-leg = fair f open-plan goal (capped k room) s (g .course .ready) (cap k f open-plan goal room settings some)
+        fair-leg : Fair f truth goal (blocked known) (valueAt est) (t .cell) l
+        fair-leg = fair f truth goal (capped k room) s (g .course .ready) (cap k f truth goal room settings some)
 
         module _ (done : LegDone) (known′ est′ ys : List ℕ) (p : LegPromise next (Done done) known′ est′ ys) where
           told : Told next done known′ est′ ys
@@ -197,7 +198,7 @@ module _ (f : Floor) (plan known₀ est₀ : List ℕ) (cart goal : ℕ) (look :
 
           leg-is : legOf next ≡ l
           unfolding given legOf capped
-          leg-is = ap (λ (m : ℕ). legFrom f open-plan goal (record { look = look .0; limit = m }) s) least
+          leg-is = ap (λ (m : ℕ). legFrom f truth goal (record { look = look .0; limit = m }) s) least
 
           result-is : done ≡ resultOf l
           result-is = told .result ∙ ap resultOf leg-is
@@ -239,39 +240,39 @@ module _ (f : Floor) (plan known₀ est₀ : List ℕ) (cart goal : ℕ) (look :
                 moved = rw (trail-with (g .past) l, length-append) (omega (arith, m .moved, moves-are));
                 searched = rw (length-with (g .past) l) (omega (arith, m .searched));
                 opened = rw (opened-with (g .past) l) (omega (arith, m .opened, opened-are));
-                within = still-within allowance (t .moves) (done .moves) (m .within) (rw moves-are (brief k f open-plan goal room s));
+                within = still-within allowance (t .moves) (done .moves) (m .within) (rw moves-are (brief k f truth goal room s));
                 formed = rw stand-is (left-formed f l);
                 written = rw (trail-with (g .past) l)
                     (given-back first trail (trailOf (g .past)) (t .moves) (m .moved) (reach m) (m .written) (l .trail) ys (done .moves) (sym moves-are) wrote);
               }
 
-          course-more : Course f open-plan goal (stand known₀ est₀ cart) (stand known′ est′ (done .cell)) (t .moves + done .moves)
-          course-more = rw (stand-is, moves-are) (both-runs f open-plan goal (g .course) (by-leg f open-plan goal s l fair-leg))
+          course-more : Course f truth goal (stand known₀ est₀ cart) (stand known′ est′ (done .cell)) (t .moves + done .moves)
+          course-more = rw (stand-is, moves-are) (both-runs f truth goal (g .course) (by-leg f truth goal s l fair-leg))
 
           stops : done .ending ≡ CutOff → Over known′ est′ trail′ t′ CutOff
           stops e = record {
             past = with-leg (g .past) l;
             walk-is = g .walk-is
-                ∙ ap (after (g .past)) (cut-off f open-plan goal k (g .depth) room s (g .deep) off some (sym ending-is ∙ e))
+                ∙ ap (after (g .past)) (cut-off f truth goal k (g .depth) room s (g .deep) off some (sym ending-is ∙ e))
                 ∙ after-onward (g .past) l (standing CutOff (left f l))
                 ∙ ap (λ (q : Stand). after (with-leg (g .past) l) (standing CutOff q)) (sym stand-is);
             made = made-more;
           }
 
           opened-few : done .opened ≤ 4096
-          opened-few = omega (arith, opened-are, few-opened k f open-plan goal room s, within-most _ _ _ _ _ _ _ _ _ accepts .0)
+          opened-few = omega (arith, opened-are, few-opened k f truth goal room s, within-most _ _ _ _ _ _ _ _ _ accepts .0)
 
           -- so the totals fit their widths
           fits : (t′ .moves < 4294967296) × (t′ .legs < 4294967296) × (t′ .opened < 18446744073709551616)
           unfolding given
           fits =
-              let most = bounded f open-plan goal course-more in
+              let most = bounded f truth goal course-more in
               let b = square-few (cells f) (area f (tested .sized)) in
               (omega (arith, most, b), omega (arith, most, b, g .few), omega (arith, most, b, g .few, g .scant, opened-few))
 
           module _ (on : done .ending ≡ CutOff → ⊥) where
             moved : 0 < done .moves
-            moved = rw moves-are (moves f open-plan goal k (g .depth) room s (g .deep) off some (fair-leg .way) (fair-leg .ends) (λ e. on (ending-is ∙ e)))
+            moved = rw moves-are (moves f truth goal k (g .depth) room s (g .deep) off some (fair-leg .way) (fair-leg .ends) (λ e. on (ending-is ∙ e)))
 
             goes : Going known′ est′ trail′ t′
             goes = record {
@@ -279,7 +280,7 @@ module _ (f : Floor) (plan known₀ est₀ : List ℕ) (cart goal : ℕ) (look :
               depth = g .depth - 1;
               deep = shallower allowance (t .moves) (done .moves) (g .depth) (g .deep) moved some;
               walk-is = g .walk-is
-                  ∙ ap (after (g .past)) (goes-on f open-plan goal k (g .depth) room s (g .deep) off some (rw (← moves-are) moved) (fair-leg .ends) (λ e. on (ending-is ∙ e)))
+                  ∙ ap (after (g .past)) (goes-on f truth goal k (g .depth) room s (g .deep) off some (rw (← moves-are) moved) (fair-leg .ends) (λ e. on (ending-is ∙ e)))
                   ∙ after-onward (g .past) l _
                   ∙ rw (← moves-are, ← stand-is, less-left allowance (t .moves) (done .moves));
               course = course-more;
