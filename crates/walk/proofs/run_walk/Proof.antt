@@ -1,4 +1,4 @@
--- The walk's loop. Each leg is accepted where the last one left off, and makes of the walk what `Going.antt` says; each way out of the
+-- The walk's loop. Each leg is accepted where the last one left off, and makes of the walk what `Advancing.antt` says; each way out of the
 -- loop finds the walk over.
 use Prim.Native.Nat.{ℕ, _-_, _≤_}
 use mathlib.Core.Path.{_≡_, _∙_, refl, sym, ap}
@@ -12,7 +12,8 @@ use Rattle.floor.specs.declared.Ending.the-variants.{CutOff}
 use Rattle.search.specs.Room.{holding}
 use Rattle.walk.specs.declared.Tally.{Tally}
 use Rattle.walk.specs.Counting.{counted}
-use Rattle.walk.proofs.Going.{Going, Over, Turned, cart-few, known-kept, est-kept, trail-kept, trail-holds, begins, arrived, spent, accepts, turned}
+use Rattle.walk.proofs.Going.{Going, Over, Turned, cart-few, known-kept, est-kept, trail-kept, trail-holds, begins, arrived, spent}
+use Rattle.walk.proofs.Advancing.{accepts, turned}
 use Rattle.walk.proofs.Keeping.{promised}
 use Rattle.walk.proofs.run_walk.Statement.{statement}
 use Rattle.walk.proofs.run_walk.Tie as tie
