@@ -3,9 +3,7 @@ use Prim.Native.Nat.{ℕ, zero, suc, _+_, _*_, _/_, _%_}
 use mathlib.Core.{Bool.Bool, Bool.true, Bool.not, Bool._&&_, Bool._||_, List.List, List.[], List._∷_, List._++_}
 use lib.{Dec.ltb, Dec.leb, Dec.eqb, ListN.length, ListN.getD}
 use Rattle.floor.specs.{Floor.upTo, Floor.refusal, Floor.ifAccepted}
-
-abbrev pub Trip : Type 0
-Trip = record { serial : ℕ; cart : ℕ; start : ℕ; goal : ℕ; ending : ℕ; last : ℕ; moves : ℕ; required : ℕ; look : ℕ; limit : ℕ }
+pub use Rattle.rules.specs.declared.Trip.{Trip}
 
 -- x in w bytes, low byte first; and the number that stands in w bytes from the offset o on
 unfoldable pub put : ℕ → ℕ → List ℕ
@@ -45,10 +43,14 @@ writeRefusal t room = refusal ((10, eqb (length room) 24) ∷ (11, valuesOk t) �
 unfoldable pub written : Trip → List ℕ → List ℕ
 written t room = ifAccepted (writeRefusal t room) (layout t) room
 
--- serials run by one, and the serial after 65,535 is 0; the first may be any
+-- serials run by one, and the serial after 65,535 is 0
+abbrev pub nextSerial : ℕ → ℕ
+nextSerial s = (s + 1) % 65536
+
+-- the i-th record's serial is the one after the serial before; the first may be any
 unfoldable pub follows : List ℕ → ℕ → Bool
 follows b zero = true
-follows b (suc i) = eqb (got b (suc i * 24) 2) ((got b (i * 24) 2 + 1) % 65536)
+follows b (suc i) = eqb (got b (suc i * 24) 2) (nextSerial (got b (i * 24) 2))
 
 -- record by record, n of them from the i-th on, 11 before 12 in each
 unfoldable pub recordTests : List ℕ → ℕ → ℕ → List (ℕ × Bool)
