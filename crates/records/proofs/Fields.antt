@@ -5,7 +5,7 @@ use mathlib.Core.List.{List, [], _∷_}
 use native.Mathlib.Omega.{arith}
 use mir.Val.{Fits}
 use mir.Syntax.{w8, w16, w32}
-use lib.ListN.{getD}
+use lib.ListN.{length, getD}
 use Rattle.rules.specs.declared.Trip.{Trip}
 use Rattle.rules.specs.Record.{put, got, layout, tripAt}
 use Rattle.records.proofs.Numbers.{put-one, put-two, put-four, got-one}
@@ -14,6 +14,10 @@ use Rattle.records.proofs.Numbers.{put-one, put-two, put-four, got-one}
 abbrev pub Fitting : Trip → Type 0
 Fitting t =
     Fits w16 (t .serial) × (Fits w16 (t .cart) × (Fits w16 (t .start) × (Fits w16 (t .goal) × (Fits w8 (t .ending) × (Fits w16 (t .last) × (Fits w32 (t .moves) × (Fits w16 (t .required) × (Fits w16 (t .look) × (Fits w16 (t .limit) × (Unit {0}))))))))))
+
+pub length-layout : (t : Trip) → length (layout t) ≡ 24
+unfolding layout put
+length-layout t = refl
 
 zero-one : put 1 0 ≡ 0 ∷ []
 unfolding put

@@ -133,3 +133,82 @@ pub fn values_hold(trip: Trip) -> bool
         & ((0 < trip.look) & (trip.look <= MOST))
         & ((0 < trip.limit) & (trip.limit <= MOST))
 }
+
+// Whether the record that starts at `at` keeps the rules that a record can break alone.
+fn record_holds(bytes: &[u8], at: usize) -> bool
+    requires { ⌜ at + 24 ≤ length (now bytes) ⌝ }
+    ensures { λ r. ⌜ r ≡ (valuesOk (tripAt (now (bytes .entry)) at) && zerosAt (now (bytes .entry)) at) ⌝ }
+{
+    values_hold(trip_at(bytes, at)) & zeros_at(bytes, at)
+}
+
+// Whether a record's serial is the one after the serial of the record before it. The first record's may be any.
+fn follows(bytes: &[u8], number: usize) -> bool
+    requires { ⌜ number * 24 + 24 ≤ length (now bytes) ⌝ }
+    ensures { λ r. ⌜ r ≡ follows (now (bytes .entry)) number ⌝ }
+{
+    if number == 0 {
+        return true;
+    }
+    let at = number * SIZE;
+    let before = two_at(bytes, at - SIZE);
+    two_at(bytes, at) == next_serial(before)
+}
+
+// The refusal of a file, or 0: it goes record by record, 11 before 12 in each.
+fn check(bytes: &[u8]) -> u8
+    ensures { λ r. ⌜ r ≡ countRefusal (now (bytes .entry)) ⌝ }
+{
+    if bytes.len() % SIZE != 0 {
+        return 10;
+    }
+    for number in 0..bytes.len() / SIZE {
+        if !record_holds(bytes, number * SIZE) {
+            return 11;
+        }
+        if !follows(bytes, number) {
+            return 12;
+        }
+    }
+    0
+}
+
+// Entry: writes one record into the room. A refusal, 10 or 11, leaves the room as it was.
+pub fn write(trip: Trip, room: &mut [u8]) -> WriteAnswer
+    ensures { λ r. ⌜ WritePromise trip (now (room .entry)) r (now (room .exit)) ⌝ }
+{
+    if room.len() != SIZE {
+        return WriteAnswer::Refused(10);
+    }
+    if !values_hold(trip) {
+        return WriteAnswer::Refused(11);
+    }
+    let laid = layout(trip);
+    bytes::copy(&laid, room);
+    WriteAnswer::Written(next_serial(trip.serial))
+}
+
+// Entry: the number of records in a file, 0 for an empty one. Refusals: 10 to 12.
+pub fn count(bytes: &[u8]) -> CountAnswer
+    ensures { λ r. ⌜ CountPromise (now (bytes .entry)) r ⌝ }
+{
+    let refused = check(bytes);
+    if refused != 0 {
+        return CountAnswer::Refused(refused);
+    }
+    CountAnswer::Records(bytes.len() / SIZE)
+}
+
+// Entry: the record of that number, counted from 0, once the whole file has been tested. A number past the end is refused with 11.
+pub fn read(bytes: &[u8], number: usize) -> ReadAnswer
+    ensures { λ r. ⌜ ReadPromise (now (bytes .entry)) number r ⌝ }
+{
+    let refused = check(bytes);
+    if refused != 0 {
+        return ReadAnswer::Refused(refused);
+    }
+    if bytes.len() / SIZE <= number {
+        return ReadAnswer::Refused(11);
+    }
+    ReadAnswer::Record(trip_at(bytes, number * SIZE))
+}

@@ -5,20 +5,9 @@ use native.Mathlib.Omega.{arith}
 use borrow.Author.Needs.{needs}
 use Rattle.records.proofs.two_at.Statement.{statement}
 use Rattle.records.proofs.two_at.Tie as tie
-use Rattle.records.proofs.two_at.Reads as reads
-use Rattle.records.proofs.two_at.Lts as lts
-
-shared-slice-read-low : tie.Need-shared-slice-read-low
-shared-slice-read-low c = search needs
 
 cast-low : tie.Need-cast-low
 cast-low c = omega (arith, c .shared-slice-known .given (c .before .args .at))
-
-add-high : tie.Need-add-high
-add-high c = search needs
-
-shared-slice-read-high : tie.Need-shared-slice-read-high
-shared-slice-read-high c = search needs
 
 cast-high : tie.Need-cast-high
 cast-high c = omega (arith, c .shared-slice-known2 .given (c .before .before .args .at + 1))
@@ -36,10 +25,10 @@ pub two-at-spec : {M : Type 1} → statement M
 two-at-spec =
     tie.close
     (tie.spec
-    shared-slice-read-low
+    (λ c. search needs)
     cast-low
-    add-high
-    shared-slice-read-high
+    (λ c. search needs)
+    (λ c. search needs)
     cast-high
     mul-result
     add-result

@@ -3,8 +3,6 @@ use Rattle.floor.specs.Floor.{upTo}
 use Rattle.rules.specs.Record.{valuesOk}
 use Rattle.records.proofs.values_hold.Statement.{statement}
 use Rattle.records.proofs.values_hold.Tie as tie
-use Rattle.records.proofs.values_hold.Reads as reads
-use Rattle.records.proofs.values_hold.Lts as lts
 
 returns : tie.Need-returns
 unfolding valuesOk upTo

@@ -6,21 +6,6 @@ use native.Mathlib.Omega.{arith}
 use borrow.Author.Needs.{needs}
 use Rattle.records.proofs.zeros_at.Statement.{statement}
 use Rattle.records.proofs.zeros_at.Tie as tie
-use Rattle.records.proofs.zeros_at.Reads as reads
-use Rattle.records.proofs.zeros_at.Lts as lts
-use Rattle.records.proofs.two_at.Reads as two-at-reads
-
-add-result : tie.Need-add-result
-add-result c = search needs
-
-shared-slice-read-result : tie.Need-shared-slice-read-result
-shared-slice-read-result c = search needs
-
-add-two-at : tie.Need-add-two-at
-add-two-at c = search needs
-
-two-at-requires : tie.Need-two-at-requires
-two-at-requires c κs = search needs
 
 returns : tie.Need-returns
 unfolding zerosAt
@@ -28,4 +13,4 @@ returns c = rw (c .two-at .ensures, got-one (c .before .before .before .args .by
 
 pub zeros-at-spec : {M : Type 1} → statement M
 zeros-at-spec =
-    tie.close (tie.spec add-result shared-slice-read-result add-two-at two-at-requires returns)
+    tie.close (tie.spec (λ c. search needs) (λ c. search needs) (λ c. search needs) (λ c κs. search needs) returns)
