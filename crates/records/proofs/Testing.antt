@@ -2,14 +2,14 @@
 -- not, and past the last.
 use Prim.Native.Nat.{ℕ, zero, suc, _+_, _-_, _*_, _/_, _%_, _≤_, _<_}
 use mathlib.Core.Path.{_≡_, _∙_, refl, sym}
-use mathlib.Core.Bool.{true, false, _&&_}
+use mathlib.Core.Bool.{true, false}
 use mathlib.Core.List.{List}
 use native.Mathlib.Omega.{arith}
 use lib.ListN.{length}
 use lib.Dec.{eqb}
 use borrow.Author.Tests.{eq-eqb, ne-eqb}
 use Rattle.floor.specs.Floor.{refusal}
-use Rattle.rules.specs.Record.{got, tripAt, zerosAt, valuesOk, nextSerial, follows, recordTests, countRefusal}
+use Rattle.rules.specs.Record.{got, recordOk, nextSerial, follows, recordTests, countRefusal}
 
 -- the refusal of the n - i records from the i-th on
 unfoldable pub rest : List ℕ → ℕ → ℕ → ℕ
@@ -39,14 +39,14 @@ module _ (b : List ℕ) where
     one-more : i < n → n - i ≡ suc (n - (i + 1))
     one-more lt = omega arith
 
-    pub broken : i < n → (valuesOk (tripAt b (i * 24)) && zerosAt b (i * 24)) ≡ false → rest b n i ≡ 11
+    pub broken : i < n → recordOk b (i * 24) ≡ false → rest b n i ≡ 11
     unfolding rest recordTests refusal
     broken lt e = rw (one-more lt, e)
 
-    pub out-of-step : i < n → (valuesOk (tripAt b (i * 24)) && zerosAt b (i * 24)) ≡ true → follows b i ≡ false → rest b n i ≡ 12
+    pub out-of-step : i < n → recordOk b (i * 24) ≡ true → follows b i ≡ false → rest b n i ≡ 12
     unfolding rest recordTests refusal
     out-of-step lt e f = rw (one-more lt, e, f)
 
-    pub kept : i < n → (valuesOk (tripAt b (i * 24)) && zerosAt b (i * 24)) ≡ true → follows b i ≡ true → rest b n i ≡ rest b n (i + 1)
+    pub kept : i < n → recordOk b (i * 24) ≡ true → follows b i ≡ true → rest b n i ≡ rest b n (i + 1)
     unfolding rest recordTests refusal
     kept lt e f = let s : i + 1 ≡ suc i = omega arith in rw (one-more lt, e, f, s)

@@ -1,10 +1,9 @@
 // Trip records: 24 bytes each, one after another, low byte first. Entries: write one, count a file's, read one by its number.
 use rules::Trip;
 ghost use mathlib.Core.Path.{_≡_};
-ghost use mathlib.Core.Bool.{_&&_};
 ghost use Prim.Native.Nat.{_+_, _*_, _/_, _%_, _≤_};
 ghost use lib.ListN.{length};
-ghost use Rattle.rules.specs.Record.{got, layout, tripAt, zerosAt, valuesOk, nextSerial, follows, countRefusal};
+ghost use Rattle.rules.specs.Record.{got, layout, tripAt, valuesOk, recordOk, nextSerial, follows, countRefusal};
 ghost use Rattle.records.specs.Promise.{WritePromise, CountPromise, ReadPromise};
 
 // The length of a record.
@@ -109,14 +108,6 @@ pub fn trip_at(bytes: &[u8], at: usize) -> Trip
     }
 }
 
-// Whether the zeros of the record that starts at `at` are zero.
-fn zeros_at(bytes: &[u8], at: usize) -> bool
-    requires { ⌜ at + 24 ≤ length (now bytes) ⌝ }
-    ensures { λ r. ⌜ r ≡ zerosAt (now (bytes .entry)) at ⌝ }
-{
-    (bytes[at + 9] == 0) & (two_at(bytes, at + 22) == 0)
-}
-
 // Whether the values keep the rules.
 pub fn values_hold(trip: Trip) -> bool
     ensures { λ r. ⌜ r ≡ valuesOk trip ⌝ }
@@ -134,12 +125,12 @@ pub fn values_hold(trip: Trip) -> bool
         & ((0 < trip.limit) & (trip.limit <= MOST))
 }
 
-// Whether the record that starts at `at` keeps the rules that a record can break alone.
+// Whether the record that starts at `at` keeps the rules, so that refusal 11 is not given.
 fn record_holds(bytes: &[u8], at: usize) -> bool
     requires { ⌜ at + 24 ≤ length (now bytes) ⌝ }
-    ensures { λ r. ⌜ r ≡ (valuesOk (tripAt (now (bytes .entry)) at) && zerosAt (now (bytes .entry)) at) ⌝ }
+    ensures { λ r. ⌜ r ≡ recordOk (now (bytes .entry)) at ⌝ }
 {
-    values_hold(trip_at(bytes, at)) & zeros_at(bytes, at)
+    values_hold(trip_at(bytes, at)) & (bytes[at + 9] == 0) & (two_at(bytes, at + 22) == 0)
 }
 
 // Whether a record's serial is the one after the serial of the record before it. The first record's may be any.

@@ -20,14 +20,11 @@ layout t =
     put 2 (t .serial) ++ put 2 (t .cart) ++ put 2 (t .start) ++ put 2 (t .goal) ++ put 1 (t .ending) ++ put 1 0
     ++ put 2 (t .last) ++ put 4 (t .moves) ++ put 2 (t .required) ++ put 2 (t .look) ++ put 2 (t .limit) ++ put 2 0
 
--- the values of the record that starts at the offset o, and whether its zeros are
+-- the values of the record that starts at the offset o
 unfoldable pub tripAt : List ℕ → ℕ → Trip
 tripAt b o =
     let at : ℕ → ℕ → ℕ = λ k w. got b (o + k) w in
     record { serial = at 0 2; cart = at 2 2; start = at 4 2; goal = at 6 2; ending = at 8 1; last = at 10 2; moves = at 12 4; required = at 16 2; look = at 18 2; limit = at 20 2 }
-
-unfoldable pub zerosAt : List ℕ → ℕ → Bool
-zerosAt b o = eqb (got b (o + 9) 1) 0 && eqb (got b (o + 22) 2) 0
 
 -- the rules of a record's values; ending 1 exactly when last cell equals goal
 unfoldable pub valuesOk : Trip → Bool
@@ -35,6 +32,10 @@ valuesOk t =
     upTo 3 (t .ending) && ltb (t .start) 4096 && ltb (t .goal) 4096 && ltb (t .last) 4096
     && (not (eqb (t .ending) 1) || eqb (t .last) (t .goal)) && (not (eqb (t .last) (t .goal)) || eqb (t .ending) 1)
     && leb (t .moves) 16769025 && leb (t .required) 126 && upTo 4096 (t .look) && upTo 4096 (t .limit)
+
+-- the rules of the record that starts at the offset o: zeros are zero
+unfoldable pub recordOk : List ℕ → ℕ → Bool
+recordOk b o = valuesOk (tripAt b o) && eqb (got b (o + 9) 1) 0 && eqb (got b (o + 22) 2) 0
 
 -- the writer, of one record: 10 and 11; it fills the room
 unfoldable pub writeRefusal : Trip → List ℕ → ℕ
@@ -55,8 +56,7 @@ follows b (suc i) = eqb (got b (suc i * 24) 2) (nextSerial (got b (i * 24) 2))
 -- record by record, n of them from the i-th on, 11 before 12 in each
 unfoldable pub recordTests : List ℕ → ℕ → ℕ → List (ℕ × Bool)
 recordTests b i zero = []
-recordTests b i (suc n) =
-    (11, valuesOk (tripAt b (i * 24)) && zerosAt b (i * 24)) ∷ (12, follows b i) ∷ recordTests b (suc i) n
+recordTests b i (suc n) = (11, recordOk b (i * 24)) ∷ (12, follows b i) ∷ recordTests b (suc i) n
 
 -- the reader answers the number of records
 unfoldable pub countRefusal : List ℕ → ℕ

@@ -1,9 +1,9 @@
 use Prim.Native.Nat.{ℕ, _-_, _*_, _/_, _≤_}
-use mathlib.Core.Bool.{true, _&&_}
+use mathlib.Core.Bool.{true}
 use lib.ListN.{length}
 use borrow.Author.Tests.{not-true, not-false}
 use mathlib.Core.Path.{_≡_, _∙_, sym}
-use Rattle.rules.specs.Record.{tripAt, zerosAt, valuesOk, countRefusal}
+use Rattle.rules.specs.Record.{recordOk, countRefusal}
 use Rattle.records.proofs.Testing.{rest, no-length, all-records, none-left, broken, out-of-step, kept}
 use borrow.Author.Needs.{needs}
 use native.Mathlib.Omega.{arith}
@@ -29,14 +29,15 @@ whole l e = sym (l .loop .inv .1 ∙ e)
 returns-2 : tie.Need-returns-2 Inv-loop μ-loop
 returns-2 c = whole (c .before .before .before) (broken _ _ _ (c .before .before .loop-test .taken) (sym (c .before .record-holds .ensures) ∙ not-true _ (c .if2 .taken)))
 
-sound : (c : tie.Else2 Inv-loop μ-loop) → (valuesOk (tripAt (c .before .before .before .before .before .before .args .bytes .now) (c .before .before .before .loop .number * 24)) && zerosAt (c .before .before .before .before .before .before .args .bytes .now) (c .before .before .before .loop .number * 24)) ≡ true
-sound c = sym (c .before .record-holds .ensures) ∙ not-false _ (c .if2 .left)
+-- the record keeps the rules
+keeps : (c : tie.Else2 Inv-loop μ-loop) → recordOk (c .before .before .before .before .before .before .args .bytes .now) (c .before .before .before .loop .number * 24) ≡ true
+keeps c = sym (c .before .record-holds .ensures) ∙ not-false _ (c .if2 .left)
 
 returns-3 : tie.Need-returns-3 Inv-loop μ-loop
-returns-3 c = whole (c .before .before .before .before .before) (out-of-step _ _ _ (c .before .before .before .before .loop-test .taken) (sound (c .before .before)) (sym (c .before .follows .ensures) ∙ not-true _ (c .if3 .taken)))
+returns-3 c = whole (c .before .before .before .before .before) (out-of-step _ _ _ (c .before .before .before .before .loop-test .taken) (keeps (c .before .before)) (sym (c .before .follows .ensures) ∙ not-true _ (c .if3 .taken)))
 
 loop-again : tie.Need-loop-again Inv-loop μ-loop
-loop-again c = let l = c .before .before .before .before .before in (omega arith, l .loop .inv .1 ∙ kept _ _ _ (c .before .before .before .before .loop-test .taken) (sound (c .before .before)) (sym (c .before .follows .ensures) ∙ not-false _ (c .if3 .left)))
+loop-again c = let l = c .before .before .before .before .before in (omega arith, l .loop .inv .1 ∙ kept _ _ _ (c .before .before .before .before .loop-test .taken) (keeps (c .before .before)) (sym (c .before .follows .ensures) ∙ not-false _ (c .if3 .left)))
 
 returns-4 : tie.Need-returns-4 Inv-loop μ-loop
 returns-4 c = whole (c .before) (none-left _ _ _ (c .loop-test .left))

@@ -1,12 +1,27 @@
+use Prim.Native.Nat.{_+_}
 use mathlib.Core.Path.{refl}
+use Rattle.rules.specs.Record.{recordOk}
+use Rattle.records.proofs.Numbers.{got-one}
 use native.Mathlib.Omega.{arith}
 use borrow.Author.Needs.{needs}
 use Rattle.records.proofs.record_holds.Statement.{statement}
 use Rattle.records.proofs.record_holds.Tie as tie
 
 returns : tie.Need-returns
-returns c = rw (c .zeros-at .ensures, c .before .values-hold .ensures, c .before .before .trip-at .ensures) refl
+unfolding recordOk
+returns c =
+    let d = c .before .before in
+    let start = d .before .before .before in
+    rw (c .two-at .ensures, d .values-hold .ensures, d .before .trip-at .ensures, got-one (start .args .bytes .now) (start .args .at + 9)) refl
 
 pub record-holds-spec : {M : Type 1} → statement M
 record-holds-spec =
-    tie.close (tie.spec (λ c κs. search needs) (λ c κs. search needs) (λ c κs. search needs) returns)
+    tie.close
+    (tie.spec
+    (λ c κs. search needs)
+    (λ c κs. search needs)
+    (λ c. search needs)
+    (λ c. search needs)
+    (λ c. search needs)
+    (λ c κs. search needs)
+    returns)
