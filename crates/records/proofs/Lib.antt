@@ -2,3 +2,4 @@ pub mod Numbers
 pub mod Fields
 pub mod Testing
 pub mod Answering
+pub mod Unique
