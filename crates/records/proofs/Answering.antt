@@ -9,6 +9,7 @@ use lib.ListN.{length, take, drop, drop-of-length-le}
 use lib.Seq.{take-length}
 use borrow.Author.Tests.{eq-eqb, ne-eqb, lt-ltb, le-ltb}
 use Rattle.floor.specs.Floor.{refusal, ifAccepted}
+use Rattle.floor.proofs.Refusing.{refused-left, accepted-left}
 use Rattle.rules.specs.declared.Trip.{Trip}
 use Rattle.rules.specs.Record.{layout, tripAt, valuesOk, nextSerial, writeRefusal, written, countRefusal, counted, readRefusal, readTrip}
 use Rattle.records.proofs.Fields.{length-layout}
@@ -17,16 +18,6 @@ use Rattle.records.specs.declared.WriteAnswer.the-variants as write
 use Rattle.records.specs.declared.CountAnswer.the-variants as count
 use Rattle.records.specs.declared.ReadAnswer.the-variants as read
 use Rattle.records.specs.Promise.{wrote, WritePromise, counts, CountPromise, reads, ReadPromise}
-
--- what is left where a test refuses, and where none does
-refused-left : {A : Type 0} {n : ℕ} → (n ≡ 0 → ⊥) → (done kept : A) → ifAccepted n done kept ≡ kept
-unfolding ifAccepted
-refused-left {n = zero} some done kept = absurd (some refl)
-refused-left {n = suc n} some done kept = refl
-
-accepted-left : {A : Type 0} {n : ℕ} → n ≡ 0 → (done kept : A) → ifAccepted n done kept ≡ done
-unfolding ifAccepted
-accepted-left e done kept = rw e refl
 
 module _ (b : List ℕ) where
   pub count-refused : {n : ℕ} → n ≡ countRefusal b → (n ≡ 0 → ⊥) → CountPromise b (count.Refused n)

@@ -3,3 +3,5 @@ pub mod Fields
 pub mod Testing
 pub mod Answering
 pub mod Unique
+pub mod Places
+pub mod Lawful

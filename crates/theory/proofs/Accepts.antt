@@ -8,7 +8,8 @@ use lib.Dec.{ltb, leb, eqb}
 use lib.ListN.{length}
 use borrow.Author.Tests.{ltb-true, leb-true, eqb-true, lt-ltb, le-leb, eq-eqb}
 use Rattle.floor.specs.Floor.{sizesOk, cells, blocked, valueAt, refusal}
-use Rattle.floor.proofs.Tools.{clash, and-1, and-2, not-t}
+use Rattle.floor.proofs.Tools.{and-1, and-2, not-t}
+use Rattle.floor.proofs.Refusing.{passed, passes, passes-all}
 use Rattle.rules.specs.Sound.{within, sound}
 use Rattle.rules.specs.Request.{Request, settingOk, walkRefusal}
 use Rattle.theory.proofs.Soundness.{every-at, every-i, Within, within-facts, within-test, Sound, sound-facts, sound-test}
@@ -28,20 +29,6 @@ pub record Accepted (moves : ℕ) (r : Request) : Type 0 where
   pub within : Within (r .floor) (blocked (r .stand .known)) (blocked (r .plan))
   pub free : blocked (r .plan) (r .stand .cell) ≡ false
   pub sound : Sound (r .floor) (blocked (r .stand .known)) (valueAt (r .stand .est)) (r .goal)
-
-passed : (n : ℕ) (t : Bool) (l : List (ℕ × Bool)) → refusal ((suc n, t) ∷ l) ≡ 0 → (t ≡ true) × (refusal l ≡ 0)
-unfolding refusal
-passed n true l e = (refl, e)
-passed n false l e = absurd (omega arith)
-
-passes : (n : ℕ) (t : Bool) (l : List (ℕ × Bool)) → t ≡ true → refusal l ≡ 0 → refusal ((n, t) ∷ l) ≡ 0
-unfolding refusal
-passes n true l e h = h
-passes n false l e h = clash e refl
-
-passes-all : refusal [] ≡ 0
-unfolding refusal
-passes-all = refl
 
 module _ (moves : ℕ) (r : Request) where
   abbrev n : ℕ
