@@ -5,3 +5,4 @@ pub mod Answering
 pub mod Unique
 pub mod Places
 pub mod Lawful
+pub mod Keeping
