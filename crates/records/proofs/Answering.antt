@@ -1,10 +1,9 @@
 -- What each answer of an entry promises, under the tests that lead to it.
-use Prim.Native.Nat.{ℕ, zero, suc, _*_, _/_, _≤_, _<_}
-use mathlib.Core.Path.{_≡_, _∙_, refl, sym, ap, ap₂}
+use Prim.Native.Nat.{ℕ, _*_, _/_, _≤_, _<_}
+use mathlib.Core.Path.{_≡_, _∙_, refl, sym, ap}
 use mathlib.Core.Bool.{true, false}
 use mathlib.Core.List.{List, [], _++_, append-nil}
 use native.Mathlib.Omega.{arith}
-use lib.Dec.{ltb}
 use lib.ListN.{length, take, drop, drop-of-length-le}
 use lib.Seq.{take-length}
 use borrow.Author.Tests.{eq-eqb, ne-eqb, lt-ltb, le-ltb}
@@ -13,7 +12,6 @@ use Rattle.floor.proofs.Refusing.{refused-left, accepted-left}
 use Rattle.rules.specs.declared.Trip.{Trip}
 use Rattle.rules.specs.Record.{layout, tripAt, valuesOk, nextSerial, writeRefusal, written, countRefusal, counted, readRefusal, readTrip}
 use Rattle.records.proofs.Fields.{length-layout}
-use Rattle.records.specs.declared.{WriteAnswer.WriteAnswer, CountAnswer.CountAnswer, ReadAnswer.ReadAnswer}
 use Rattle.records.specs.declared.WriteAnswer.the-variants as write
 use Rattle.records.specs.declared.CountAnswer.the-variants as count
 use Rattle.records.specs.declared.ReadAnswer.the-variants as read

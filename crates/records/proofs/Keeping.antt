@@ -4,22 +4,22 @@ use mathlib.Core.Path.{_≡_, _∙_, refl, sym, ap, subst}
 use mathlib.Core.Bool.{true}
 use mathlib.Core.List.{List, [], _∷_, _++_, append-assoc, append-nil}
 use native.Mathlib.Omega.{arith}
-use lib.Dec.{eqb}
 use lib.ListN.{length, length-append}
 use borrow.Author.Tests.{eq-eqb}
-use Rattle.floor.specs.Floor.{refusal, ifAccepted}
+use Rattle.floor.specs.Floor.{refusal}
 use Rattle.floor.proofs.Refusing.{passed, passes, passes-all, accepted-left}
 use Rattle.rules.specs.declared.Trip.{Trip}
 use Rattle.rules.specs.Record.{got, layout, tripAt, valuesOk, recordOk, nextSerial, writeRefusal, written, follows, recordTests, countRefusal}
-use Rattle.records.specs.declared.{WriteAnswer.WriteAnswer, CountAnswer.CountAnswer, ReadAnswer.ReadAnswer}
+use Rattle.records.specs.declared.{ReadAnswer.ReadAnswer}
 use Rattle.records.specs.declared.{WriteAnswer.the-variants.Written, CountAnswer.the-variants.Records, ReadAnswer.the-variants.Record}
 use Rattle.records.specs.Promise.{wrote, WritePromise, counts, CountPromise, ReadPromise}
-use Rattle.records.specs.Files.{Lawful, InWidth, File, end, trip, RecordsKeep}
+use Rattle.records.specs.Files.{InWidth, File, end, trip, RecordsKeep}
 use Rattle.records.proofs.Fields.{length-layout}
 use Rattle.records.proofs.Answering.{count-done, read-done}
 use Rattle.records.proofs.Unique.{count-unique, read-unique}
 use Rattle.records.proofs.Places.{got-there, trip-there, record-there, serial-back, trip-back, record-back}
 use Rattle.records.proofs.Lawful.{accepts, accepted}
+use Rattle.records.proofs.Again.{written-again}
 
 -- what the writer did, where it wrote
 record Wrote (t : Trip) (next : ℕ) (bytes : List ℕ) : Type 0 where
@@ -149,4 +149,5 @@ records-keep = record {
   counts-in-full = λ f p. count-unique p (count-done _ (written-accepted f)) ∙ ap Records (number f);
   reads-back = λ us t ts f p. read-written us t ts f p;
   written-reads = alone;
+  writes-again = written-again;
 }

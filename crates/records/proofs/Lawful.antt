@@ -1,6 +1,6 @@
 -- A file is not refused exactly where each of its records keeps the rules and follows the one before.
 use Prim.Native.Nat.{ℕ, zero, suc, _+_, _*_, _/_, _≤_, _<_}
-use mathlib.Core.Path.{_≡_, refl, sym, subst}
+use mathlib.Core.Path.{_≡_, subst}
 use mathlib.Core.Logic.{inl, inr}
 use Rattle.floor.proofs.Tools.{both}
 use mathlib.Core.Bool.{true}

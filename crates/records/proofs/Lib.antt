@@ -5,4 +5,5 @@ pub mod Answering
 pub mod Unique
 pub mod Places
 pub mod Lawful
+pub mod Again
 pub mod Keeping

@@ -1,15 +1,11 @@
 -- A record at its place in a file is the record alone; and a record that was laid out reads as it was.
-use Prim.Native.Nat.{ℕ, zero, suc, _+_, _*_, _/_, _%_, _^_, _≤_, _<_, pow·suc}
-use mathlib.Core.Path.{_≡_, _∙_, refl, sym, ap, ap₂}
-use mathlib.Core.Bool.{Bool, true, _&&_}
-use mathlib.Core.List.{List, [], _∷_, _++_}
+use Prim.Native.Nat.{ℕ, zero, suc, _+_, _/_, _%_, _^_, _≤_, _<_, pow·suc}
+use mathlib.Core.Path.{_≡_, _∙_, refl, ap}
+use mathlib.Core.Bool.{true}
+use mathlib.Core.List.{List, _∷_, _++_}
 use native.Mathlib.Omega.{arith}
-use lib.Dec.{eqb}
 use lib.ListN.{length, getD, List·getD-append}
 use lib.Seq.{getD-append-add}
-use borrow.Author.Tests.{ltb-true, leb-true}
-use Rattle.floor.specs.Floor.{upTo}
-use Rattle.floor.proofs.Tools.{and-1, and-2}
 use Rattle.rules.specs.declared.Trip.{Trip}
 use Rattle.records.specs.Files.{InWidth}
 use Rattle.rules.specs.Record.{put, got, layout, tripAt, valuesOk, recordOk}

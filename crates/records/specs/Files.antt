@@ -1,9 +1,9 @@
 -- What the entries keep together: what is written reads back, and a file is counted exactly when each of its records keeps the rules.
 use Prim.Native.Nat.{ℕ, _*_, _/_, _%_, _<_}
 use mathlib.Core.{Path._≡_, Bool.true, List.List, List.[], List._∷_, List._++_}
-use lib.ListN.{length, take, drop}
+use lib.ListN.{length, getD, take, drop}
 use Rattle.rules.specs.declared.Trip.{Trip}
-use Rattle.rules.specs.Record.{recordOk, follows}
+use Rattle.rules.specs.Record.{recordOk, nextSerial, follows}
 use Rattle.records.specs.declared.{WriteAnswer.WriteAnswer, CountAnswer.CountAnswer, ReadAnswer.ReadAnswer}
 use Rattle.records.specs.declared.{WriteAnswer.the-variants.Written, CountAnswer.the-variants.Records, ReadAnswer.the-variants.Record}
 use Rattle.records.specs.Promise.{WritePromise, CountPromise, ReadPromise}
@@ -46,3 +46,7 @@ pub record RecordsKeep : Type 0 where
   -- what the writer accepts, the reader gives back
   pub written-reads : {t : Trip} {room bytes : List ℕ} {next : ℕ} {answer : ReadAnswer} → WritePromise t room (Written next) bytes → InWidth t
       → ReadPromise bytes 0 answer → answer ≡ Record t
+  -- and what the reader gives, the writer accepts: the record is written again as it stands in the file, byte for byte
+  pub writes-again : {file : List ℕ} {number : ℕ} {t : Trip} {room bytes : List ℕ} {answer : WriteAnswer}
+      → ((x : ℕ) → x < length file → getD file x 0 < 256) → ReadPromise file number (Record t) → length room ≡ 24 → WritePromise t room answer bytes
+      → (answer ≡ Written (nextSerial (t .serial))) × (bytes ≡ take 24 (drop (number * 24) file))

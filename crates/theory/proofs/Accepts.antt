@@ -1,13 +1,11 @@
 -- A request is not refused exactly where each of the nine tests holds, here as facts.
-use Prim.Native.Nat.{ℕ, suc, _≤_, _<_}
-use mathlib.Core.Path.{_≡_, refl}
+use Prim.Native.Nat.{ℕ, _≤_, _<_}
+use mathlib.Core.Path.{_≡_}
 use mathlib.Core.Bool.{Bool, true, false, _&&_}
-use mathlib.Core.List.{List, [], _∷_}
-use native.Mathlib.Omega.{arith}
 use lib.Dec.{ltb, leb, eqb}
 use lib.ListN.{length}
 use borrow.Author.Tests.{ltb-true, leb-true, eqb-true, lt-ltb, le-leb, eq-eqb}
-use Rattle.floor.specs.Floor.{sizesOk, cells, blocked, valueAt, refusal}
+use Rattle.floor.specs.Floor.{sizesOk, cells, blocked, valueAt}
 use Rattle.floor.proofs.Tools.{and-1, and-2, not-t}
 use Rattle.floor.proofs.Refusing.{passed, passes, passes-all}
 use Rattle.rules.specs.Sound.{within, sound}

@@ -1,6 +1,5 @@
 use mathlib.Core.Path.{_∙_, sym}
 use Rattle.records.proofs.Answering.{count-refused, count-done}
-use native.Mathlib.Omega.{arith}
 use borrow.Author.Needs.{needs}
 use Rattle.records.proofs.count.Statement.{statement}
 use Rattle.records.proofs.count.Tie as tie

@@ -1,7 +1,6 @@
 use mathlib.Core.Path.{refl, sym}
 use Rattle.records.proofs.Testing.{step}
 use Rattle.rules.specs.Record.{follows}
-use native.Mathlib.Omega.{arith}
 use borrow.Author.Needs.{needs}
 use Rattle.records.proofs.follows.Statement.{statement}
 use Rattle.records.proofs.follows.Tie as tie

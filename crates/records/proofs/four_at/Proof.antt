@@ -1,6 +1,5 @@
 use mathlib.Core.Path.{sym}
 use Rattle.records.proofs.Numbers.{got-four}
-use native.Mathlib.Omega.{arith}
 use borrow.Author.Needs.{needs}
 use Rattle.records.proofs.four_at.Statement.{statement}
 use Rattle.records.proofs.four_at.Tie as tie

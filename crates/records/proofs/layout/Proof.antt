@@ -1,6 +1,4 @@
 use Rattle.records.proofs.Fields.{laid}
-use Rattle.rules.specs.Record.{layout}
-use Prim.Native.Nat.{ℕ}
 use native.Mathlib.Omega.{arith}
 use borrow.Author.Needs.{needs}
 use Rattle.records.proofs.layout.Statement.{statement}

@@ -1,7 +1,6 @@
 use mathlib.Core.Path.{_≡_, _∙_, sym}
 use Rattle.rules.specs.Record.{countRefusal}
 use Rattle.records.proofs.Answering.{file-refused, past-the-end, read-done}
-use native.Mathlib.Omega.{arith}
 use borrow.Author.Needs.{needs}
 use Rattle.records.proofs.read.Statement.{statement}
 use Rattle.records.proofs.read.Tie as tie

@@ -2,7 +2,6 @@ use Prim.Native.Nat.{_+_}
 use mathlib.Core.Path.{refl}
 use Rattle.rules.specs.Record.{recordOk}
 use Rattle.records.proofs.Numbers.{got-one}
-use native.Mathlib.Omega.{arith}
 use borrow.Author.Needs.{needs}
 use Rattle.records.proofs.record_holds.Statement.{statement}
 use Rattle.records.proofs.record_holds.Tie as tie

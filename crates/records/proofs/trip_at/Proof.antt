@@ -1,6 +1,4 @@
 use Rattle.records.proofs.Fields.{taken}
-use Rattle.rules.specs.Record.{tripAt}
-use native.Mathlib.Omega.{arith}
 use borrow.Author.Needs.{needs}
 use Rattle.records.proofs.trip_at.Statement.{statement}
 use Rattle.records.proofs.trip_at.Tie as tie

@@ -1,7 +1,6 @@
-use mathlib.Core.Path.{_≡_, _∙_, sym}
+use mathlib.Core.Path.{_∙_, sym}
 use borrow.Author.Tests.{not-true, not-false}
 use Rattle.records.proofs.Answering.{no-room, no-values, copied, write-done}
-use native.Mathlib.Omega.{arith}
 use borrow.Author.Needs.{needs}
 use Rattle.records.proofs.write.Statement.{statement}
 use Rattle.records.proofs.write.Tie as tie
