@@ -50,7 +50,32 @@ module _ (b : List ℕ) (bytes : (x : ℕ) → x < length b → getD b x 0 < 256
       let start : o + 0 ≡ o = omega arith in
       let nine : put 1 0 ≡ take 1 (drop (o + 9) b) = ap (put 1) (sym (rules .1)) ∙ put-got 1 (o + 9) (omega arith) in
       let end : put 2 0 ≡ take 2 (drop (o + 22) b) = ap (put 2) (sym (rules .2)) ∙ put-got 2 (o + 22) (omega arith) in
-      rw (nine, end, put-got 2 (o + 0) (omega arith), put-got 2 (o + 2) (omega arith), put-got 2 (o + 4) (omega arith), put-got 2 (o + 6) (omega arith), put-got 1 (o + 8) (omega arith), put-got 2 (o + 10) (omega arith), put-got 4 (o + 12) (omega arith), put-got 2 (o + 16) (omega arith), put-got 2 (o + 18) (omega arith), put-got 2 (o + 20) (omega arith), start, join o 2 2, join o 4 2, join o 6 2, join o 8 1, join o 9 1, join o 10 2, join o 12 4, join o 16 2, join o 18 2, join o 20 2, join o 22 2) refl
+      rw (
+        nine,
+        end,
+        put-got 2 (o + 0) (omega arith),
+        put-got 2 (o + 2) (omega arith),
+        put-got 2 (o + 4) (omega arith),
+        put-got 2 (o + 6) (omega arith),
+        put-got 1 (o + 8) (omega arith),
+        put-got 2 (o + 10) (omega arith),
+        put-got 4 (o + 12) (omega arith),
+        put-got 2 (o + 16) (omega arith),
+        put-got 2 (o + 18) (omega arith),
+        put-got 2 (o + 20) (omega arith),
+        start,
+        join o 2 2,
+        join o 4 2,
+        join o 6 2,
+        join o 8 1,
+        join o 9 1,
+        join o 10 2,
+        join o 12 4,
+        join o 16 2,
+        join o 18 2,
+        join o 20 2,
+        join o 22 2,
+      ) refl
 
 -- what the reader does, where it gives a record
 record Gave (file : List ℕ) (i : ℕ) (t : Trip) : Type 0 where

@@ -13,7 +13,8 @@ use Rattle.records.proofs.Numbers.{put-one, put-two, put-four, got-one}
 -- each value fits its type, as every value of the code does
 abbrev pub Fitting : Trip → Type 0
 Fitting t =
-    Fits w16 (t .serial) × (Fits w16 (t .cart) × (Fits w16 (t .start) × (Fits w16 (t .goal) × (Fits w8 (t .ending) × (Fits w16 (t .last) × (Fits w32 (t .moves) × (Fits w16 (t .required) × (Fits w16 (t .look) × (Fits w16 (t .limit) × (Unit {0}))))))))))
+    Fits w16 (t .serial) × (Fits w16 (t .cart) × (Fits w16 (t .start) × (Fits w16 (t .goal) × (Fits w8 (t .ending)
+    × (Fits w16 (t .last) × (Fits w32 (t .moves) × (Fits w16 (t .required) × (Fits w16 (t .look) × (Fits w16 (t .limit) × (Unit {0}))))))))))
 
 pub length-layout : (t : Trip) → length (layout t) ≡ 24
 unfolding layout put
@@ -34,9 +35,33 @@ pub laid : (t : Trip) → Fitting t
     ∷ t .required % 256 ∷ t .required / 256 ∷ t .look % 256 ∷ t .look / 256 ∷ t .limit % 256 ∷ t .limit / 256 ∷ 0 ∷ 0 ∷ [] ≡ layout t
 unfolding layout
 laid t (s, (c, (a, (g, (e, (l, (m, (r, (k, (n, u)))))))))) =
-    rw (put-two _ s, put-two _ c, put-two _ a, put-two _ g, put-one _ e, put-two _ l, put-four _ m, put-two _ r, put-two _ k, put-two _ n, zero-one, zero-two) refl
+    rw (
+      put-two _ s,
+      put-two _ c,
+      put-two _ a,
+      put-two _ g,
+      put-one _ e,
+      put-two _ l,
+      put-four _ m,
+      put-two _ r,
+      put-two _ k,
+      put-two _ n,
+      zero-one,
+      zero-two,
+    ) refl
 
 pub taken : (b : List ℕ) (o : ℕ)
-    → _≡_ {A = Trip} (record { serial = got b o 2; cart = got b (o + 2) 2; start = got b (o + 4) 2; goal = got b (o + 6) 2; ending = getD b (o + 8) 0; last = got b (o + 10) 2; moves = got b (o + 12) 4; required = got b (o + 16) 2; look = got b (o + 18) 2; limit = got b (o + 20) 2 }) (tripAt b o)
+    → _≡_ {A = Trip} (record {
+      serial = got b o 2;
+      cart = got b (o + 2) 2;
+      start = got b (o + 4) 2;
+      goal = got b (o + 6) 2;
+      ending = getD b (o + 8) 0;
+      last = got b (o + 10) 2;
+      moves = got b (o + 12) 4;
+      required = got b (o + 16) 2;
+      look = got b (o + 18) 2;
+      limit = got b (o + 20) 2;
+    }) (tripAt b o)
 unfolding tripAt
 taken b o = let e : o + 0 ≡ o = omega arith in rw (e, got-one b (o + 8)) refl

@@ -1,15 +1,14 @@
 -- What is written reads back: a file of records that the writer gave one after another is counted in full, and each is read as it was.
-use Prim.Native.Nat.{ℕ, zero, suc, _+_, _*_, _/_, _%_, _≤_, _<_}
+use Prim.Native.Nat.{ℕ, suc, _+_, _*_, _/_, _%_, _<_}
 use mathlib.Core.Path.{_≡_, _∙_, refl, sym, ap, subst}
-use mathlib.Core.Bool.{true}
 use mathlib.Core.List.{List, [], _∷_, _++_, append-assoc, append-nil}
 use native.Mathlib.Omega.{arith}
 use lib.ListN.{length, length-append}
 use borrow.Author.Tests.{eq-eqb}
 use Rattle.floor.specs.Floor.{refusal}
-use Rattle.floor.proofs.Refusing.{passed, passes, passes-all, accepted-left}
+use Rattle.floor.proofs.Refusing.{passes, passes-all}
 use Rattle.rules.specs.declared.Trip.{Trip}
-use Rattle.rules.specs.Record.{got, layout, tripAt, valuesOk, recordOk, nextSerial, writeRefusal, written, follows, recordTests, countRefusal}
+use Rattle.rules.specs.Record.{got, tripAt, recordOk, nextSerial, recordTests, countRefusal}
 use Rattle.records.specs.declared.{ReadAnswer.ReadAnswer}
 use Rattle.records.specs.declared.{WriteAnswer.the-variants.Written, CountAnswer.the-variants.Records, ReadAnswer.the-variants.Record}
 use Rattle.records.specs.Promise.{wrote, WritePromise, counts, CountPromise, ReadPromise}
@@ -17,51 +16,9 @@ use Rattle.records.specs.Files.{InWidth, File, end, trip, RecordsKeep}
 use Rattle.records.proofs.Fields.{length-layout}
 use Rattle.records.proofs.Answering.{count-done, read-done}
 use Rattle.records.proofs.Unique.{count-unique, read-unique}
-use Rattle.records.proofs.Places.{got-there, trip-there, record-there, serial-back, trip-back, record-back}
+use Rattle.records.proofs.Placing.{Wrote, did, long, trip-placed, record-placed, serial-placed, due}
 use Rattle.records.proofs.Lawful.{accepts, accepted}
 use Rattle.records.proofs.Again.{written-again}
-
--- what the writer did, where it wrote
-record Wrote (t : Trip) (next : ℕ) (bytes : List ℕ) : Type 0 where
-  pub keeps : valuesOk t ≡ true
-  pub goes-on : next ≡ nextSerial (t .serial)
-  pub puts : bytes ≡ layout t
-
-did : {t : Trip} {room bytes : List ℕ} {next : ℕ} → WritePromise t room (Written next) bytes → Wrote t next bytes
-unfolding wrote written writeRefusal
-did {t} {room} p =
-    let none : writeRefusal t room ≡ 0 = sym (ap (λ (x : ℕ × ℕ). x .0) (p .answers)) in
-    record {
-      keeps = passed _ _ _ (passed _ _ _ none .1) .0;
-      goes-on = ap (λ (x : ℕ × ℕ). x .1) (p .answers) ∙ accepted-left none _ _;
-      puts = p .writes ∙ accepted-left none _ _;
-    }
-
--- what stands before the seam of two parts is read from the first
-got-first : (xs ys : List ℕ) (w k : ℕ) → k + w ≤ length xs → got (xs ++ ys) k w ≡ got xs k w
-got-first xs ys w k le = ap (λ (o : ℕ). got (xs ++ ys) o w) (omega arith) ∙ got-there [] xs ys w k le
-
--- a record that was written, at its place
-module _ (xs : List ℕ) {t : Trip} {bytes : List ℕ} {next : ℕ} (ys : List ℕ) (width : InWidth t) (w : Wrote t next bytes) where
-  long : length bytes ≡ 24
-  long = rw (w .puts) (length-layout t)
-
-  trip-placed : tripAt (xs ++ (bytes ++ ys)) (length xs) ≡ t
-  trip-placed = trip-there xs bytes ys long ∙ rw (w .puts) (trip-back t width)
-
-  record-placed : recordOk (xs ++ (bytes ++ ys)) (length xs) ≡ true
-  record-placed = record-there xs bytes ys long ∙ rw (w .puts) (record-back t width (w .keeps))
-
-  serial-placed : got (xs ++ (bytes ++ ys)) (length xs) 2 ≡ t .serial
-  serial-placed =
-      let start : length xs ≡ length xs + 0 = omega arith in
-      ap (λ (o : ℕ). got (xs ++ (bytes ++ ys)) o 2) start ∙ got-there xs bytes ys 2 0 (rw long (omega arith)) ∙ rw (w .puts) (serial-back t width)
-
-  -- it follows the record before, if its serial is the one that is due
-  due : (i : ℕ) → length xs ≡ i * 24 → ((j : ℕ) → i ≡ suc j → nextSerial (got xs (j * 24) 2) ≡ t .serial) → follows (xs ++ (bytes ++ ys)) i ≡ true
-  unfolding follows
-  due zero e h = refl
-  due (suc j) e h = eq-eqb _ _ (ap (λ (o : ℕ). got (xs ++ (bytes ++ ys)) o 2) (sym e) ∙ serial-placed ∙ sym (h j refl) ∙ ap nextSerial (sym (got-first xs (bytes ++ ys) 2 (j * 24) (omega arith))))
 
 length-file : {serial : ℕ} {ts : List Trip} {file : List ℕ} → File serial ts file → length file ≡ length ts * 24
 length-file end = refl
@@ -77,7 +34,8 @@ tested xs i e (trip {next = next} {t = t} {ts = ts} {bytes = bytes} {file = file
     let w = did p in
     passes _ _ _ (ap (recordOk (xs ++ (bytes ++ file))) (sym e) ∙ record-placed xs file width w)
     (passes _ _ _ (due xs file width w i e h)
-    (subst (λ (l : List ℕ). refusal (recordTests l (suc i) (length ts)) ≡ 0) (append-assoc xs bytes file) (tested (xs ++ bytes) (suc i) longer rest serial-next)))
+    (subst (λ (l : List ℕ). refusal (recordTests l (suc i) (length ts)) ≡ 0) (append-assoc xs bytes file)
+    (tested (xs ++ bytes) (suc i) longer rest serial-next)))
   where
     longer : length (xs ++ bytes) ≡ suc i * 24
     longer = length-append xs bytes ∙ omega (arith, long xs {bytes = bytes} [] width (did p), e)
@@ -119,7 +77,16 @@ part (u ∷ us) t ts (trip {bytes = bytes} {file = file} width p rest) =
     let seam = append-assoc bytes (q .front) (q .bytes ++ q .rear) in
     let far : length (bytes ++ q .front) ≡ length (u ∷ us) * 24 =
     length-append bytes (q .front) ∙ rw (did p .puts, length-layout u) (omega (arith, q .placed)) in
-    record { next = q .next; front = bytes ++ q .front; bytes = q .bytes; rear = q .rear; parts = ap (λ (l : List ℕ). bytes ++ l) (q .parts) ∙ sym seam; placed = far; width = q .width; wrote = q .wrote }
+    record {
+      next = q .next;
+      front = bytes ++ q .front;
+      bytes = q .bytes;
+      rear = q .rear;
+      parts = ap (λ (l : List ℕ). bytes ++ l) (q .parts) ∙ sym seam;
+      placed = far;
+      width = q .width;
+      wrote = q .wrote;
+    }
 
 -- and it is read from there
 module _ {serial : ℕ} (us : List Trip) (t : Trip) (ts : List Trip) {file : List ℕ} (f : File serial (us ++ (t ∷ ts)) file) where

@@ -30,7 +30,18 @@ module _ (xs l ys : List ℕ) where
     pub trip-there : tripAt (xs ++ (l ++ ys)) (length xs) ≡ tripAt l 0
     unfolding tripAt
     trip-there =
-        rw (at 2 0 (omega arith), at 2 2 (omega arith), at 2 4 (omega arith), at 2 6 (omega arith), at 1 8 (omega arith), at 2 10 (omega arith), at 4 12 (omega arith), at 2 16 (omega arith), at 2 18 (omega arith), at 2 20 (omega arith)) refl
+        rw (
+          at 2 0 (omega arith),
+          at 2 2 (omega arith),
+          at 2 4 (omega arith),
+          at 2 6 (omega arith),
+          at 1 8 (omega arith),
+          at 2 10 (omega arith),
+          at 4 12 (omega arith),
+          at 2 16 (omega arith),
+          at 2 18 (omega arith),
+          at 2 20 (omega arith),
+        ) refl
 
     pub record-there : recordOk (xs ++ (l ++ ys)) (length xs) ≡ recordOk l 0
     unfolding recordOk
@@ -67,7 +78,18 @@ module _ (t : Trip) (width : InWidth t) where
   pub trip-back : tripAt (layout t) 0 ≡ t
   unfolding tripAt layout put got
   trip-back =
-      rw (got-put 2 _ (width .serial), got-put 2 _ (width .cart), got-put 2 _ (width .start), got-put 2 _ (width .goal), got-put 1 _ (width .ending), got-put 2 _ (width .last), got-put 4 _ (width .moves), got-put 2 _ (width .required), got-put 2 _ (width .look), got-put 2 _ (width .limit)) refl
+      rw (
+        got-put 2 _ (width .serial),
+        got-put 2 _ (width .cart),
+        got-put 2 _ (width .start),
+        got-put 2 _ (width .goal),
+        got-put 1 _ (width .ending),
+        got-put 2 _ (width .last),
+        got-put 4 _ (width .moves),
+        got-put 2 _ (width .required),
+        got-put 2 _ (width .look),
+        got-put 2 _ (width .limit),
+      ) refl
 
   pub record-back : valuesOk t ≡ true → recordOk (layout t) 0 ≡ true
   unfolding recordOk

@@ -9,8 +9,12 @@ ghost use Rattle.records.specs.Promise.{WritePromise, CountPromise, Read
 // The length of a record.
 pub const SIZE: usize = 24;
 
-// Cells are below it, and lookahead and move limit are at most it.
+// Start, goal and last cell are below it, and lookahead and move limit are at most it.
 const MOST: u16 = 4096;
+
+const MOST_MOVES: u32 = 16769025;
+
+const MOST_REQUIRED: u16 = 126;
 
 // What the writer answers: that the record is written, with the serial of the next one; or a refusal.
 pub enum WriteAnswer {
@@ -38,7 +42,7 @@ pub fn next_serial(serial: u16) -> u16
 }
 
 // The bytes of a record.
-fn layout(trip: Trip) -> [u8; 24]
+fn layout(trip: Trip) -> [u8; SIZE]
     ensures { λ r. ⌜ r ≡ layout trip ⌝ }
 {
     [
@@ -108,7 +112,7 @@ pub fn trip_at(bytes: &[u8], at: usize) -> Trip
     }
 }
 
-// Whether the values keep the rules.
+// Whether the values keep the rules. Ending 1 comes with the goal as last cell, and the goal with ending 1.
 pub fn values_hold(trip: Trip) -> bool
     ensures { λ r. ⌜ r ≡ valuesOk trip ⌝ }
 {
@@ -119,8 +123,8 @@ pub fn values_hold(trip: Trip) -> bool
         & (trip.last < MOST)
         & ((trip.ending != 1) | (trip.last == trip.goal))
         & ((trip.last != trip.goal) | (trip.ending == 1))
-        & (trip.moves <= 16769025)
-        & (trip.required <= 126)
+        & (trip.moves <= MOST_MOVES)
+        & (trip.required <= MOST_REQUIRED)
         & ((0 < trip.look) & (trip.look <= MOST))
         & ((0 < trip.limit) & (trip.limit <= MOST))
 }

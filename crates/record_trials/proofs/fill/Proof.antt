@@ -1,3 +1,4 @@
+-- The file keeps its length, so each record has its place. The measure is the records left.
 use Prim.Native.Nat.{_-_, _≤_}
 use mathlib.Core.Path.{_≡_}
 use lib.ListN.{length}

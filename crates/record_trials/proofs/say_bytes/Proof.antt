@@ -1,3 +1,4 @@
+-- The measure is the bytes left.
 use Prim.Native.Nat.{_-_, _≤_}
 use borrow.Author.Needs.{needs}
 use Rattle.record_trials.proofs.say_bytes.Statement.{statement}

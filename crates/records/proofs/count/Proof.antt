@@ -1,3 +1,4 @@
+-- What `count` promises: a refusal of the file, or the number of its records.
 use mathlib.Core.Path.{_∙_, sym}
 use Rattle.records.proofs.Answering.{count-refused, count-done}
 use borrow.Author.Needs.{needs}

@@ -1,3 +1,4 @@
+-- The first record follows whatever its serial; a later one if its serial is the one after the 24 bytes before.
 use mathlib.Core.Path.{refl, sym}
 use Rattle.records.proofs.Testing.{step}
 use Rattle.rules.specs.Record.{follows}
@@ -10,7 +11,9 @@ unfolding follows
 returns c = rw (c .if1 .taken) refl
 
 returns-2 : tie.Need-returns-2
-returns-2 c = rw (c .next-serial .ensures, c .before .two-at2 .ensures, c .before .before .two-at .ensures) (sym (step _ _ (c .before .before .before .if1 .left)))
+returns-2 c =
+    let d = c .before .before in
+    rw (c .next-serial .ensures, c .before .two-at2 .ensures, d .two-at .ensures) (sym (step _ _ (d .before .if1 .left)))
 
 pub follows-spec : {M : Type 1} → statement M
 follows-spec =

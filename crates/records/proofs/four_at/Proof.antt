@@ -1,3 +1,4 @@
+-- Two numbers of two bytes make the number that is got from four.
 use mathlib.Core.Path.{sym}
 use Rattle.records.proofs.Numbers.{got-four}
 use borrow.Author.Needs.{needs}

@@ -1,3 +1,4 @@
+-- Each value's bytes, by the laws of `Fields`; the last cast needs its range by hand.
 use Rattle.records.proofs.Fields.{laid}
 use native.Mathlib.Omega.{arith}
 use borrow.Author.Needs.{needs}

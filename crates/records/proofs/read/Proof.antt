@@ -1,3 +1,4 @@
+-- What `read` promises: a refusal of the file, a number past its end, or the record's values.
 use mathlib.Core.Path.{_≡_, _∙_, sym}
 use Rattle.rules.specs.Record.{countRefusal}
 use Rattle.records.proofs.Answering.{file-refused, past-the-end, read-done}

@@ -1,3 +1,4 @@
+-- The values' rules and the two zeros, as the rules have them.
 use Prim.Native.Nat.{_+_}
 use mathlib.Core.Path.{refl}
 use Rattle.rules.specs.Record.{recordOk}

@@ -1,3 +1,4 @@
+-- Two bytes, of which each fits, make the number that is got.
 use Prim.Native.Nat.{_+_}
 use mathlib.Core.Path.{sym}
 use Rattle.records.proofs.Numbers.{got-two}
@@ -13,13 +14,17 @@ cast-high : tie.Need-cast-high
 cast-high c = omega (arith, c .shared-slice-known2 .given (c .before .before .args .at + 1))
 
 mul-result : tie.Need-mul-result
-mul-result c = omega (arith, c .shared-slice-known2 .given (c .before .before .args .at + 1))
+mul-result c =
+    let at = c .before .before .args .at in
+    omega (arith, c .shared-slice-known2 .given at, c .shared-slice-known2 .given (at + 1))
 
 add-result : tie.Need-add-result
-add-result c = omega (arith, c .shared-slice-known2 .given (c .before .before .args .at + 1), c .shared-slice-known2 .given (c .before .before .args .at))
+add-result c =
+    let at = c .before .before .args .at in
+    omega (arith, c .shared-slice-known2 .given at, c .shared-slice-known2 .given (at + 1))
 
 returns : tie.Need-returns
-returns c = sym (got-two _ _)
+returns c = sym (got-two (c .before .before .args .bytes .now) (c .before .before .args .at))
 
 pub two-at-spec : {M : Type 1} → statement M
 two-at-spec =

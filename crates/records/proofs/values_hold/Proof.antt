@@ -1,3 +1,4 @@
+-- The code's tests are the definition's, one after another.
 use mathlib.Core.Path.{refl}
 use Rattle.floor.specs.Floor.{upTo}
 use Rattle.rules.specs.Record.{valuesOk}

@@ -1,3 +1,4 @@
+-- What `write` promises: the two refusals leave the room, and the layout is copied over all of it.
 use mathlib.Core.Path.{_∙_, sym}
 use borrow.Author.Tests.{not-true, not-false}
 use Rattle.records.proofs.Answering.{no-room, no-values, copied, write-done}
