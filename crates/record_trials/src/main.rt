@@ -227,10 +227,11 @@ fn lengths(file: &[u8])
     length_trial(file, 72);
 }
 
-// Reading by number: a lawful file and numbers past its end, and files that are refused as they stand.
+// Reading by number: the largest values, a lawful file and numbers past its end, and files that are refused as they stand.
 fn numbers(file: &[u8], broken: &[u8])
     requires { ⌜ (72 ≤ length (now file)) × (72 ≤ length (now broken)) ⌝ }
 {
+    say_read(&largest(), 0);
     say_read(file, 0);
     say_read(file, 1);
     say_read(file, 2);
@@ -258,7 +259,7 @@ fn room_said(trip: Trip, room: &mut [u8]) {
     say(b"\n");
 }
 
-// Rooms of other lengths and a broken rule leave the room as it was; then case J, byte for byte.
+// Rooms of other lengths and a broken rule leave the room as it was; then case J and the largest values, byte for byte.
 fn rooms() {
     room_trial(trip_f(65535), 0);
     room_trial(trip_f(65535), 23);
@@ -268,6 +269,7 @@ fn rooms() {
     room_trial(lost, 23);
     room_trial(lost, 24);
     room_trial(trip_f(65535), 24);
+    room_trial(records::trip_at(&largest(), 0), 24);
 }
 
 // Fills a file with records whose serials run on from what the writer answers.

@@ -8,6 +8,7 @@ use lib.ListN.{length, getD, List·getD-append}
 use lib.Seq.{getD-append-add}
 use Rattle.rules.specs.declared.Trip.{Trip}
 use Rattle.records.specs.Files.{InWidth}
+use Rattle.records.proofs.Fields.{Bounded, bounded}
 use Rattle.rules.specs.Record.{put, got, layout, tripAt, valuesOk, recordOk}
 
 -- what stands before a place in a file, and what stands behind it, is not read
@@ -70,7 +71,10 @@ unfolding layout put got
 twenty-two t = refl
 
 -- a record that was laid out reads as it was
-module _ (t : Trip) (width : InWidth t) where
+module _ (t : Trip) (width : InWidth t) (ok : valuesOk t ≡ true) where
+  b : Bounded t
+  b = bounded t ok
+
   pub serial-back : got (layout t) 0 2 ≡ t .serial
   unfolding layout put got
   serial-back = got-put 2 _ (width .serial)
@@ -81,16 +85,16 @@ module _ (t : Trip) (width : InWidth t) where
       rw (
         got-put 2 _ (width .serial),
         got-put 2 _ (width .cart),
-        got-put 2 _ (width .start),
-        got-put 2 _ (width .goal),
-        got-put 1 _ (width .ending),
-        got-put 2 _ (width .last),
-        got-put 4 _ (width .moves),
-        got-put 2 _ (width .required),
-        got-put 2 _ (width .look),
-        got-put 2 _ (width .limit),
+        got-put 2 (t .start) (omega (arith, b .start)),
+        got-put 2 (t .goal) (omega (arith, b .goal)),
+        got-put 1 (t .ending) (omega (arith, b .ending)),
+        got-put 2 (t .last) (omega (arith, b .last)),
+        got-put 4 (t .moves) (omega (arith, b .moves)),
+        got-put 2 (t .required) (omega (arith, b .required)),
+        got-put 2 (t .look) (omega (arith, b .look)),
+        got-put 2 (t .limit) (omega (arith, b .limit)),
       ) refl
 
-  pub record-back : valuesOk t ≡ true → recordOk (layout t) 0 ≡ true
+  pub record-back : recordOk (layout t) 0 ≡ true
   unfolding recordOk
-  record-back ok = rw (trip-back, ok, nine t, twenty-two t) refl
+  record-back = rw (trip-back, ok, nine t, twenty-two t) refl

@@ -41,7 +41,7 @@ module _ (xs : List ℕ) {t : Trip} {bytes : List ℕ} {next : ℕ} (ys : List �
   long = rw (w .puts) (length-layout t)
 
   pub trip-placed : tripAt (xs ++ (bytes ++ ys)) (length xs) ≡ t
-  trip-placed = trip-there xs bytes ys long ∙ rw (w .puts) (trip-back t width)
+  trip-placed = trip-there xs bytes ys long ∙ rw (w .puts) (trip-back t width (w .keeps))
 
   pub record-placed : recordOk (xs ++ (bytes ++ ys)) (length xs) ≡ true
   record-placed = record-there xs bytes ys long ∙ rw (w .puts) (record-back t width (w .keeps))
@@ -49,7 +49,7 @@ module _ (xs : List ℕ) {t : Trip} {bytes : List ℕ} {next : ℕ} (ys : List �
   pub serial-placed : got (xs ++ (bytes ++ ys)) (length xs) 2 ≡ t .serial
   serial-placed =
       let start : length xs ≡ length xs + 0 = omega arith in
-      ap (λ (o : ℕ). got (xs ++ (bytes ++ ys)) o 2) start ∙ got-there xs bytes ys 2 0 (rw long (omega arith)) ∙ rw (w .puts) (serial-back t width)
+      ap (λ (o : ℕ). got (xs ++ (bytes ++ ys)) o 2) start ∙ got-there xs bytes ys 2 0 (rw long (omega arith)) ∙ rw (w .puts) (serial-back t width (w .keeps))
 
   -- it follows the record before, if its serial is the one that is due
   pub due : (i : ℕ) → length xs ≡ i * 24 → ((j : ℕ) → i ≡ suc j → nextSerial (got xs (j * 24) 2) ≡ t .serial) → follows (xs ++ (bytes ++ ys)) i ≡ true

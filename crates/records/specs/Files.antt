@@ -14,18 +14,10 @@ pub record Lawful (bytes : List ℕ) : Type 0 where
   pub keeps : (i : ℕ) → i < length bytes / 24 → recordOk bytes (i * 24) ≡ true
   pub runs : (i : ℕ) → i < length bytes / 24 → follows bytes i ≡ true
 
--- each value is in its width, as every value of the code is
+-- serial and cart number are in their widths, as in the code they are: of them the writer tests nothing
 pub record InWidth (t : Trip) : Type 0 where
   pub serial : t .serial < 65536
   pub cart : t .cart < 65536
-  pub start : t .start < 65536
-  pub goal : t .goal < 65536
-  pub ending : t .ending < 256
-  pub last : t .last < 65536
-  pub moves : t .moves < 4294967296
-  pub required : t .required < 65536
-  pub look : t .look < 65536
-  pub limit : t .limit < 65536
 
 -- a file of trips as the writer gave them, one after another, each with the serial that was answered for the next
 pub data File : ℕ → List Trip → List ℕ → Type 0 where
