@@ -18,7 +18,7 @@ use Rattle.theory.proofs.Picks.{Least}
 use Rattle.theory.proofs.Seeks.{Sought, sought}
 use Rattle.theory.proofs.Ahead.{length-route, unbarred, on-floor}
 use Rattle.search.specs.declared.Planned.the-variants as P
-use Rattle.search.specs.Room.{routeFrom, holding}
+use Rattle.search.specs.Room.{columns, routeFrom, holding}
 use Rattle.search.specs.Episode.{halted, planned}
 use Rattle.search.proofs.Holding.{route-held, holds-route}
 use Rattle.leg.specs.Moving.{Ahead}
@@ -99,7 +99,7 @@ pub record Route (f : Floor) (known room : List ℕ) (g : ℕ) (ahead : List ℕ
 
 module _ (f : Floor) (known est : List ℕ) (goal cart : ℕ) (s : Search) (t g : ℕ)
     (sought : Sought f (blocked known) (valueAt est) goal cart s) (least : Least (valueAt est) s (cells f) t g) (room : List ℕ) where
-  pub laid : room ≡ holding (length room) (route (s .parent) g t []) → length room ≡ cells f * 4 → g ≤ cells f → Route f known room g (route (s .parent) g t [])
+  pub laid : room ≡ holding (length room) (route (s .parent) g t []) → length room ≡ cells f * columns → g ≤ cells f → Route f known room g (route (s .parent) g t [])
   laid e long le =
       let ahead = route (s .parent) g t [] in
       let count : length ahead ≡ g = length-route (s .parent) g t [] ∙ omega arith in

@@ -27,7 +27,7 @@ use Rattle.theory.proofs.Outcomes.{refused-outcome}
 use Rattle.refusals.specs.Given.{given}
 use Rattle.search.specs.declared.Planned.{Planned}
 use Rattle.search.specs.declared.Planned.the-variants as P
-use Rattle.search.specs.Room.{routeFrom, holding}
+use Rattle.search.specs.Room.{columns, routeFrom, holding}
 use Rattle.search.specs.Episode.{planned, episodeOf, EpisodePromise}
 use Rattle.leg.specs.declared.{LegDone.LegDone, LegAnswer.the-variants.Done, LegAnswer.the-variants.Refused}
 use Rattle.leg.specs.Moving.{Maps, marked, Marked, Came}
@@ -158,7 +158,7 @@ module _ (f : Floor) (plan known est : List ℕ) (cart goal : ℕ) (look : Looka
         pub opened-few : o ≤ 4096
         opened-few = few-opened o (goes .count)
 
-        pub route-laid : n ≡ cells f * 4 → length room ≡ n → Route f known′ room g ahead
+        pub route-laid : n ≡ cells f * columns → length room ≡ n → Route f known′ room g ahead
         unfolding episodeOf
         route-laid en long =
             let is = way-ahead f (blocked plan) known′ est cart goal (limit .0) searched (searched .target) g o goes in
@@ -168,7 +168,7 @@ module _ (f : Floor) (plan known est : List ℕ) (cart goal : ℕ) (look : Looka
             (laid f known′ est goal cart (searched .state) (goes .target) g (sought-here .0) least room
             (rw (long, ← is) (p .leaves)) (long ∙ en) (way-short f (blocked plan) known′ est cart goal (limit .0) searched (searched .target) g o goes))
 
-        pub went : (r : LegDone) (known″ trail″ : List ℕ) → n ≡ cells f * 4 → length room ≡ n
+        pub went : (r : LegDone) (known″ trail″ : List ℕ) → n ≡ cells f * columns → length room ≡ n
             → ((e : ℕ → ℕ) → Came (driven cart goal o e (drive (sense f (blocked plan)) (limit .0) (blocked known′) (routeFrom room 0 g))) r known″ trail trail″)
             → length known″ ≡ length known → LegPromise asked (Done r) known″ est′ trail″
         unfolding given episodeOf driven

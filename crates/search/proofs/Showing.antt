@@ -1,6 +1,6 @@
 -- What the room shows after one cell's numbers were stored: the cart's cell at the start, a cell that joins, a cell that leaves.
 use Prim.Native.Nat.{ℕ, _+_, _*_, _%_, _<_}
-use mathlib.Core.Path.{_≡_, _∙_, refl, sym, ap, subst, fun-ext}
+use mathlib.Core.Path.{_≡_, _∙_, refl, sym, ap, ap₂, subst, fun-ext}
 use mathlib.Core.Logic.{inl, inr}
 use mathlib.Core.Bool.{Bool, true, false, not, _&&_}
 use mathlib.Core.List.{List}
@@ -12,9 +12,9 @@ use Rattle.floor.specs.declared.{Step.the-variants.To, Distance.Distance}
 use Rattle.floor.specs.Floor.{blocked, valueAt, leadsTo}
 use Rattle.floor.proofs.Tools.{both}
 use Rattle.rules.specs.Search.{Search, start, falls}
-use Rattle.search.specs.Room.{distanceOf, column, shown, joinedPhase}
+use Rattle.search.specs.Room.{columns, distanceOf, column, shown, joinedPhase}
 use Rattle.search.specs.Steps.{leaving, joinsAt, joining}
-use Rattle.search.proofs.Reading.{reached, Written, written-phase, written-all}
+use Rattle.search.proofs.Reading.{reached, apart, Written, written-phase, written-all}
 use Rattle.search.proofs.Joining.{none-joins}
 
 -- ---- two states that agree at each cell
@@ -46,10 +46,10 @@ module _ (room room′ : List ℕ) (y g p phase : ℕ) (w : Written room room′
   beyond : (x : ℕ) → (x ≡ y → ⊥) → Same (shown room′) (shown room) x
   unfolding shown
   beyond x n = record {
-    dist = rw (w .dist-else x n, w .phase-else x n);
-    parent = w .parent-else x n;
-    front = rw (w .phase-else x n);
-    opened = rw (w .phase-else x n);
+    dist = rw (w .off 0 x (omega arith) n, w .off 2 x (omega arith) n);
+    parent = w .off 1 x (omega arith) n;
+    front = rw (w .off 2 x (omega arith) n);
+    opened = rw (w .off 2 x (omega arith) n);
   }
 
   -- a state that shows these numbers at y, and elsewhere what was shown, is shown now
@@ -70,19 +70,33 @@ module _ (room room′ : List ℕ) (y g p phase : ℕ) (w : Written room room′
 
 -- ---- the start
 
-pub starts : (room : List ℕ) (cart : ℕ) → cart * 4 + 3 < length room → ((i : ℕ) → valueAt room i ≡ 0) → shown (set room (cart * 4 + 2) 1) ≡ start cart
+pub starts : (room : List ℕ) (cart : ℕ) → cart * columns + 4 < length room → ((i : ℕ) → valueAt room i ≡ 0) → shown (set room (cart * columns + 2) 1) ≡ start cart
 unfolding start shown column distanceOf
 starts room cart lt z = stored room _ cart _ _ 1 (written-phase room cart lt 1) (start cart)
-    (rw (eq-eqb cart cart refl, z (cart * 4 + 0), start))
-    (z (cart * 4 + 1))
+    (rw (eq-eqb cart cart refl, z (cart * columns + 0), start))
+    (z (cart * columns + 1))
     (sym (eq-eqb cart cart refl))
     refl
     (λ x n. record {
-      dist = rw (ne-eqb x cart n, z (x * 4 + 2), start);
-      parent = z (x * 4 + 1);
-      front = rw (ne-eqb x cart n, z (x * 4 + 2));
-      opened = rw (z (x * 4 + 2));
+      dist = rw (ne-eqb x cart n, z (x * columns + 2), start);
+      parent = z (x * columns + 1);
+      front = rw (ne-eqb x cart n, z (x * columns + 2));
+      opened = rw (z (x * columns + 2));
     })
+
+-- ---- the notes show nothing
+
+pub notes-aside : (room : List ℕ) (i v : ℕ) → shown (set room (i * columns + 4) v) ≡ shown room
+unfolding shown
+notes-aside room i v = λ t. record {
+  dist = fun-ext (λ x. ap₂ distanceOf (same 2 x (omega arith)) (same 0 x (omega arith))) t;
+  parent = fun-ext (λ x. same 1 x (omega arith)) t;
+  front = fun-ext (λ x. ap (λ (p : ℕ). eqb (p % 2) 1) (same 2 x (omega arith))) t;
+  opened = fun-ext (λ x. ap (leb 2) (same 2 x (omega arith))) t;
+}
+  where
+    same : (j x : ℕ) → j < 4 → column j (set room (i * columns + 4) v) x ≡ column j room x
+    same j x lt = apart room i 4 v j (omega arith) (omega arith) (omega arith) x
 
 -- ---- a cell that is offered a way
 
@@ -97,7 +111,7 @@ joined-opened p = elim (both (ltb p 2)) [
   | inr e ↦ rw (e, joinedPhase, le-leb 2 p (ltb-false p 2 e))
 ]
 
-joined-some : (p : ℕ) → joinedPhase p ≡ 0 → ⊥
+pub joined-some : (p : ℕ) → joinedPhase p ≡ 0 → ⊥
 unfolding joinedPhase
 joined-some p = elim (both (ltb p 2)) [
   | inl e ↦ rw (e, joinedPhase) (λ z. omega (arith, z))
@@ -136,8 +150,8 @@ module _ (room : List ℕ) (known : List ℕ) (c g y : ℕ) where
       never false = refl
 
   pub joins-now : (d : Distance) (t : Bool) (phase : ℕ) → (getD known y 0 ≡ 1 → ⊥) → d ≡ shown room .dist y → t ≡ falls d g → t ≡ true
-      → y * 4 + 3 < length room → phase ≡ joinedPhase (getD room (y * 4 + 2) 0)
-      → shown (set (set (set room (y * 4 + 0) g) (y * 4 + 1) c) (y * 4 + 2) phase) ≡ after
+      → y * columns + 4 < length room → phase ≡ joinedPhase (getD room (y * columns + 2) 0)
+      → shown (set (set (set room (y * columns + 0) g) (y * columns + 1) c) (y * columns + 2) phase) ≡ after
   unfolding joining blocked shown column valueAt
   joins-now d t phase k is tells f lt e = rw e (stored room _ y g c _ (written-all room y lt g c _) after
       (sym (reached _ g (joined-some _)) ∙ rw (test, joining))
@@ -156,10 +170,14 @@ module _ (room : List ℕ) (known : List ℕ) (c g y : ℕ) where
 
 -- ---- a cell that leaves the frontier
 
-pub leaves : (room : List ℕ) (c : ℕ) → c * 4 + 3 < length room → shown room .front c ≡ true → shown (set room (c * 4 + 2) 2) ≡ leaving c (shown room)
+pub front-phase : (room : List ℕ) (c : ℕ) → shown room .front c ≡ true → column 2 room c ≡ 0 → ⊥
+unfolding shown
+front-phase room c e z = omega (arith, eqb-true (column 2 room c % 2) 1 e, z)
+
+pub leaves : (room : List ℕ) (c : ℕ) → c * columns + 4 < length room → shown room .front c ≡ true → shown (set room (c * columns + 2) 2) ≡ leaving c (shown room)
 unfolding leaving shown distanceOf
 leaves room c lt e = stored room _ c _ _ 2 (written-phase room c lt 2) (leaving c (shown room))
-    (reached (column 2 room c) (column 0 room c) some)
+    (reached (column 2 room c) (column 0 room c) (front-phase room c e))
     refl
     (rw (eq-eqb c c refl, e))
     (rw (eq-eqb c c refl))
@@ -173,6 +191,3 @@ leaves room c lt e = stored room _ c _ _ 2 (written-phase room c lt 2) (leaving 
     kept : (b : Bool) → b ≡ (b && true)
     kept true = refl
     kept false = refl
-
-    some : column 2 room c ≡ 0 → ⊥
-    some z = omega (arith, eqb-true (column 2 room c % 2) 1 e, z)

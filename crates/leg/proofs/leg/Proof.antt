@@ -6,6 +6,7 @@ use native.Mathlib.Omega.{arith}
 use borrow.Author.Needs.{needs}
 use Rattle.floor.specs.Floor.{sizesOk}
 use Rattle.refusals.specs.Given.{given}
+use Rattle.search.specs.Room.{columns}
 use Rattle.search.proofs.Holding.{room-fits, room-ready}
 use Rattle.leg.proofs.Running.{tested, refuses, passes}
 use Rattle.leg.proofs.leg.Statement.{statement}
@@ -17,7 +18,7 @@ unfolding given
 sized c = tested _ _ _ _ _ _ _ _ _ (passes _ _ _ _ _ _ _ _ _ _ (c .before .check .ensures) (c .if1 .left)) .sized
 
 -- the largest floor's room is enough
-fits : (c : tie.After-cells) → c .cells .result * 4 ≤ 16384
+fits : (c : tie.After-cells) → c .cells .result * columns ≤ 4096 * columns
 fits c = room-fits _ (sized (c .before)) _ (c .cells .ensures)
 
 returns : tie.Need-returns
