@@ -1,5 +1,5 @@
-// The C interface: each function hands its numbers to an entry and tells the answer in document 01's numbers. include/wexlund.h
-// declares them.
+// The C interface: each function hands its numbers to an entry, tells the answer's numbers in the lent array, and answers 0 or the
+// refusal's number. include/wexlund.h declares them.
 use floor::Ending;
 use floor::Figure;
 use floor::Floor;
@@ -7,16 +7,22 @@ use floor::Lookahead;
 use floor::MoveLimit;
 use host::Cart;
 use leg::LegAnswer;
-use leg::LegDone;
 use records::CountAnswer;
 use records::ReadAnswer;
 use records::WriteAnswer;
 use rules::Trip;
 use walk::WalkAnswer;
-use walk::WalkDone;
+ghost use mathlib.Core.Path.{_≡_};
+ghost use Rattle.floor.specs.Floor.{valueAt};
+ghost use Rattle.rules.specs.Request.{numberOf};
+ghost use Rattle.leg.specs.Promise as leg;
+ghost use Rattle.walk.specs.Promise as walk;
+ghost use Rattle.planner.specs.Interface.{sized, asked, PrepareCall, LegCall, WalkCall, fourOf, HostLegCall, RequiredCall, WriteCall, CountCall, values, ReadCall};
 
 // The number of an ending.
-fn number_of(ending: Ending) -> u64 {
+fn number_of(ending: Ending) -> u64
+    ensures { λ r. ⌜ r ≡ numberOf ending ⌝ }
+{
     match ending {
         Ending::Arrived => 1,
         Ending::CutOff => 2,
@@ -25,69 +31,65 @@ fn number_of(ending: Ending) -> u64 {
     }
 }
 
-// Tells a leg's result: ending, cell, moves and opened.
-fn tell_done(done: LegDone, result: &mut [u64; 4]) {
-    let ending = done.ending;
-    result[0] = number_of(ending);
-    result[1] = done.cell as u64;
-    result[2] = done.moves as u64;
-    result[3] = done.opened as u64;
-}
-
-// Tells a leg's answer, and gives its refusal or 0.
-fn tell_leg(answer: LegAnswer, result: &mut [u64; 4]) -> u8 {
+// Tells a leg's numbers, ending, cell, moves and opened, and answers its refusal or 0.
+fn tell_leg(answer: LegAnswer, result: &mut [u64; 4]) -> u8
+    ensures { λ r. ⌜ (r ≡ leg.refusedBy answer) × (now (result .exit) ≡ leg.told answer) ⌝ }
+{
     match answer {
         LegAnswer::Done(done) => {
-            tell_done(done, result);
+            let ending = done.ending;
+            let numbers = [
+                number_of(ending),
+                done.cell as u64,
+                done.moves as u64,
+                done.opened as u64,
+            ];
+            *result = numbers;
             0
         }
         LegAnswer::Refused(n, cart) => {
-            result[0] = 0;
-            result[1] = cart as u64;
-            result[2] = 0;
-            result[3] = 0;
+            let numbers = [0, cart as u64, 0, 0];
+            *result = numbers;
             n
         }
     }
 }
 
-// Tells a walk's result: ending, cell, moves, legs and opened.
-fn tell_walked(done: WalkDone, result: &mut [u64; 5]) {
-    let ending = done.ending;
-    result[0] = number_of(ending);
-    result[1] = done.cell as u64;
-    result[2] = done.moves as u64;
-    result[3] = done.legs as u64;
-    result[4] = done.opened;
-}
-
-// Tells a walk's answer, and gives its refusal or 0.
-fn tell_walk(answer: WalkAnswer, result: &mut [u64; 5]) -> u8 {
+// Tells a walk's numbers, ending, cell, moves, legs and opened, and answers its refusal or 0.
+fn tell_walk(answer: WalkAnswer, result: &mut [u64; 5]) -> u8
+    ensures { λ r. ⌜ (r ≡ walk.refusedBy answer) × (now (result .exit) ≡ walk.told answer) ⌝ }
+{
     match answer {
         WalkAnswer::Done(done) => {
-            tell_walked(done, result);
+            let ending = done.ending;
+            let numbers = [
+                number_of(ending),
+                done.cell as u64,
+                done.moves as u64,
+                done.legs as u64,
+                done.opened,
+            ];
+            *result = numbers;
             0
         }
         WalkAnswer::Refused(n, cart) => {
-            result[0] = 0;
-            result[1] = cart as u64;
-            result[2] = 0;
-            result[3] = 0;
-            result[4] = 0;
+            let numbers = [0, cart as u64, 0, 0, 0];
+            *result = numbers;
             n
         }
     }
 }
 
+// Preparing: writes into each cell its Manhattan distance to the goal.
 #[no_mangle]
-pub extern "C" fn wexlund_prepare(width: usize, height: usize, goal: usize, est: &mut [u16]) -> u8 {
-    let floor = Floor {
-        width: width,
-        height: height,
-    };
+pub extern "C" fn wexlund_prepare(width: usize, height: usize, goal: usize, est: &mut [u16]) -> u8
+    ensures { λ r. ⌜ PrepareCall (sized width height) goal (now (est .entry)) r (now (est .exit)) ⌝ }
+{
+    let floor = Floor { width, height };
     floor::prepare(floor, goal, est)
 }
 
+// One leg. The result: ending, cell, moves, opened.
 #[no_mangle]
 pub extern "C" fn wexlund_leg(
     width: usize,
@@ -101,17 +103,19 @@ pub extern "C" fn wexlund_leg(
     limit: usize,
     trail: &mut [u16],
     result: &mut [u64; 4],
-) -> u8 {
-    let floor = Floor {
-        width: width,
-        height: height,
-    };
+) -> u8
+    ensures { λ r. ⌜ LegCall
+        (asked (sized width height) (now (plan .entry)) (now (known .entry)) (now (est .entry)) cart goal lookahead limit (now (trail .entry)))
+        r (now (result .exit)) (now (known .exit)) (now (est .exit)) (now (trail .exit)) ⌝ }
+{
+    let floor = Floor { width, height };
     let look = Lookahead(lookahead);
     let most = MoveLimit(limit);
     let answer = leg::leg(floor, plan, known, est, cart, goal, look, most, trail);
     tell_leg(answer, result)
 }
 
+// One walk, with an allowance of moves. The result: ending, cell, moves, legs that searched, cells opened in all.
 #[no_mangle]
 pub extern "C" fn wexlund_walk(
     width: usize,
@@ -126,11 +130,12 @@ pub extern "C" fn wexlund_walk(
     allowance: usize,
     trail: &mut [u16],
     result: &mut [u64; 5],
-) -> u8 {
-    let floor = Floor {
-        width: width,
-        height: height,
-    };
+) -> u8
+    ensures { λ r. ⌜ WalkCall allowance
+        (asked (sized width height) (now (plan .entry)) (now (known .entry)) (now (est .entry)) cart goal lookahead limit (now (trail .entry)))
+        r (now (result .exit)) (now (known .exit)) (now (est .exit)) (now (trail .exit)) ⌝ }
+{
+    let floor = Floor { width, height };
     let look = Lookahead(lookahead);
     let most = MoveLimit(limit);
     let answer = walk::walk(
@@ -148,6 +153,26 @@ pub extern "C" fn wexlund_walk(
     tell_walk(answer, result)
 }
 
+// The record of the host that four numbers are: cell, moves, opened and legs.
+fn cart_of(numbers: [u32; 4]) -> Cart
+    ensures { λ r. ⌜ numbers ≡ fourOf r ⌝ }
+{
+    Cart {
+        cell: numbers[0],
+        moves: numbers[1],
+        opened: numbers[2],
+        legs: numbers[3],
+    }
+}
+
+// The four numbers of the host's record.
+fn four_of(cart: Cart) -> [u32; 4]
+    ensures { λ r. ⌜ r ≡ fourOf cart ⌝ }
+{
+    [cart.cell, cart.moves, cart.opened, cart.legs]
+}
+
+// One leg for the host's own cart: the record that it lent holds the new cell and running totals of moves, of cells opened and of legs.
 #[no_mangle]
 pub extern "C" fn wexlund_host_leg(
     cart: &mut [u32; 4],
@@ -161,28 +186,25 @@ pub extern "C" fn wexlund_host_leg(
     limit: usize,
     trail: &mut [u16],
     result: &mut [u64; 4],
-) -> u8 {
-    let floor = Floor {
-        width: width,
-        height: height,
-    };
+) -> u8
+    ensures { λ r. ⌜ HostLegCall (now (cart .entry))
+        (asked (sized width height) (now (plan .entry)) (now (known .entry)) (now (est .entry)) (valueAt (now (cart .entry)) 0) goal lookahead limit (now (trail .entry)))
+        r (now (result .exit)) (now (known .exit)) (now (est .exit)) (now (trail .exit)) (now (cart .exit)) ⌝ }
+{
+    let floor = Floor { width, height };
     let look = Lookahead(lookahead);
     let most = MoveLimit(limit);
-    let given = Cart {
-        cell: cart[0],
-        moves: cart[1],
-        opened: cart[2],
-        legs: cart[3],
-    };
+    let lent = *cart;
+    let given = cart_of(lent);
     let hosted = host::leg_for(given, floor, plan, known, est, goal, look, most, trail);
-    cart[0] = hosted.cart.cell;
-    cart[1] = hosted.cart.moves;
-    cart[2] = hosted.cart.opened;
-    cart[3] = hosted.cart.legs;
+    let after = hosted.cart;
+    let numbers = four_of(after);
+    *cart = numbers;
     let answer = hosted.answer;
     tell_leg(answer, result)
 }
 
+// The required figure: the Manhattan distance from start to goal.
 #[no_mangle]
 pub extern "C" fn wexlund_required(
     width: usize,
@@ -190,23 +212,25 @@ pub extern "C" fn wexlund_required(
     start: usize,
     goal: usize,
     result: &mut [u64; 1],
-) -> u8 {
-    let floor = Floor {
-        width: width,
-        height: height,
-    };
+) -> u8
+    ensures { λ r. ⌜ RequiredCall (sized width height) start goal r (now (result .exit)) ⌝ }
+{
+    let floor = Floor { width, height };
     match floor::required(floor, start, goal) {
         Figure::Moves(moves) => {
-            result[0] = moves as u64;
+            let numbers = [moves as u64];
+            *result = numbers;
             0
         }
         Figure::Refused(n) => {
-            result[0] = 0;
+            let numbers = [0];
+            *result = numbers;
             n
         }
     }
 }
 
+// The writer of one trip record, into a room of 24 bytes.
 #[no_mangle]
 pub extern "C" fn wexlund_record_write(
     serial: u16,
@@ -220,18 +244,22 @@ pub extern "C" fn wexlund_record_write(
     lookahead: u16,
     limit: u16,
     room: &mut [u8],
-) -> u8 {
+) -> u8
+    ensures { λ r. ⌜ WriteCall
+        (record { serial = serial; cart = cart; start = start; goal = goal; ending = ending; last = last; moves = moves; required = required; look = lookahead; limit = limit })
+        (now (room .entry)) r (now (room .exit)) ⌝ }
+{
     let trip = Trip {
-        serial: serial,
-        cart: cart,
-        start: start,
-        goal: goal,
-        ending: ending,
-        last: last,
-        moves: moves,
-        required: required,
+        serial,
+        cart,
+        start,
+        goal,
+        ending,
+        last,
+        moves,
+        required,
         look: lookahead,
-        limit: limit,
+        limit,
     };
     match records::write(trip, room) {
         WriteAnswer::Written(next) => 0,
@@ -239,69 +267,57 @@ pub extern "C" fn wexlund_record_write(
     }
 }
 
+// The reader: the number of records, 0 for an empty file.
 #[no_mangle]
-pub extern "C" fn wexlund_record_count(bytes: &[u8], result: &mut [u64; 1]) -> u8 {
+pub extern "C" fn wexlund_record_count(bytes: &[u8], result: &mut [u64; 1]) -> u8
+    ensures { λ r. ⌜ CountCall (now (bytes .entry)) r (now (result .exit)) ⌝ }
+{
     match records::count(bytes) {
         CountAnswer::Records(n) => {
-            result[0] = n as u64;
+            let numbers = [n as u64];
+            *result = numbers;
             0
         }
         CountAnswer::Refused(n) => {
-            result[0] = 0;
+            let numbers = [0];
+            *result = numbers;
             n
         }
     }
 }
 
-// Tells the first five values of a record.
-fn tell_place(trip: Trip, result: &mut [u64; 10]) {
-    result[0] = trip.serial as u64;
-    result[1] = trip.cart as u64;
-    result[2] = trip.start as u64;
-    result[3] = trip.goal as u64;
-    result[4] = trip.ending as u64;
+// The values of a record, in the layout's order.
+fn values(trip: Trip) -> [u64; 10]
+    ensures { λ r. ⌜ r ≡ values trip ⌝ }
+{
+    [
+        trip.serial as u64,
+        trip.cart as u64,
+        trip.start as u64,
+        trip.goal as u64,
+        trip.ending as u64,
+        trip.last as u64,
+        trip.moves as u64,
+        trip.required as u64,
+        trip.look as u64,
+        trip.limit as u64,
+    ]
 }
 
-// Tells the last five values of a record.
-fn tell_figures(trip: Trip, result: &mut [u64; 10]) {
-    result[5] = trip.last as u64;
-    result[6] = trip.moves as u64;
-    result[7] = trip.required as u64;
-    result[8] = trip.look as u64;
-    result[9] = trip.limit as u64;
-}
-
-// Tells the values of a record, in the layout's order.
-fn tell_trip(trip: Trip, result: &mut [u64; 10]) {
-    tell_place(trip, result);
-    tell_figures(trip, result);
-}
-
-// The values where there is no record: all 0.
-fn no_trip() -> Trip {
-    Trip {
-        serial: 0,
-        cart: 0,
-        start: 0,
-        goal: 0,
-        ending: 0,
-        last: 0,
-        moves: 0,
-        required: 0,
-        look: 0,
-        limit: 0,
-    }
-}
-
+// Fields read by record number, counted from 0, the whole file being tested first.
 #[no_mangle]
-pub extern "C" fn wexlund_record_read(bytes: &[u8], number: usize, result: &mut [u64; 10]) -> u8 {
+pub extern "C" fn wexlund_record_read(bytes: &[u8], number: usize, result: &mut [u64; 10]) -> u8
+    ensures { λ r. ⌜ ReadCall (now (bytes .entry)) number r (now (result .exit)) ⌝ }
+{
     match records::read(bytes, number) {
         ReadAnswer::Record(trip) => {
-            tell_trip(trip, result);
+            let numbers = values(trip);
+            *result = numbers;
             0
         }
         ReadAnswer::Refused(n) => {
-            tell_trip(no_trip(), result);
+            let numbers = [0; 10];
+            *result = numbers;
             n
         }
     }
