@@ -9,11 +9,12 @@ returns : tie.Need-returns
 unfolding reads
 returns c =
     let told = c .before .before in
-    rw (c .values .ensures) (read-told (rw (told .trip .given .1) at (told .before .before .read .ensures)))
+    let answered = rw (told .trip .given .1) at (told .before .before .read .ensures) in
+    rw (c .values .ensures) (read-told answered)
 
 returns-2 : tie.Need-returns-2
 unfolding reads
-returns-2 c = rw no-values (read-told (rw (c .before .n .given .1) at (c .before .before .before .read .ensures)))
+returns-2 c = let answered = rw (c .before .n .given .1) at (c .before .before .before .read .ensures) in rw no-values (read-told answered)
 
 pub wexlund-record-read-spec : {M : Type 1} → statement M
 wexlund-record-read-spec =

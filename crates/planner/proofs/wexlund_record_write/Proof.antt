@@ -7,11 +7,11 @@ use Rattle.planner.proofs.wexlund_record_write.Tie as tie
 
 returns : tie.Need-returns
 unfolding wrote
-returns c = write-told (rw (c .before .next .given .1) at (c .before .before .before .before .before .write .ensures))
+returns c = let answered = rw (c .before .next .given .1) at (c .before .before .before .before .before .write .ensures) in write-told answered
 
 returns-2 : tie.Need-returns-2
 unfolding wrote
-returns-2 c = write-told (rw (c .before .n .given .1) at (c .before .before .before .before .before .write .ensures))
+returns-2 c = let answered = rw (c .before .n .given .1) at (c .before .before .before .before .before .write .ensures) in write-told answered
 
 pub wexlund-record-write-spec : {M : Type 1} → statement M
 wexlund-record-write-spec =
