@@ -25,14 +25,14 @@ fn lengths_hold(n: usize, plan: &[u8], known: &[u8], est: &[u16]) -> bool
 }
 
 // Whether cart and goal are below `n`, so that refusal 3 is not given.
-fn cells_hold(n: usize, cart: usize, goal: usize) -> bool
+pub fn cells_hold(n: usize, cart: usize, goal: usize) -> bool
     ensures { λ r. ⌜ r ≡ (ltb cart n && ltb goal n) ⌝ }
 {
     (cart < n) & (goal < n)
 }
 
 // Whether lookahead and move limit are in 1 to MOST, so that refusal 4 is not given.
-fn settings_hold(look: Lookahead, limit: MoveLimit) -> bool
+pub fn settings_hold(look: Lookahead, limit: MoveLimit) -> bool
     ensures { λ r. ⌜ r ≡ settingOk (record { look = look .0; limit = limit .0 }) ⌝ }
 {
     (0 < look.0) & (look.0 <= MOST) & ((0 < limit.0) & (limit.0 <= MOST))

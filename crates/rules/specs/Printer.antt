@@ -78,15 +78,19 @@ digits (suc depth) n rest = elim (ltb n 10) [ true ↦ (n + 48) ∷ rest | false
 unfoldable pub decimal : ℕ → List ℕ
 decimal n = digits (suc n) n []
 
--- leg lines, from the leg number i on
+-- a leg's line: leg number, opened in it, moves in it, cell after it; and the lines from the leg number i on
+unfoldable pub legLine : ℕ → ℕ → ℕ → ℕ → List ℕ
+legLine i opened moves cell =
+    ascii "leg " ++ decimal i ++ ascii " opened " ++ decimal opened ++ ascii " moves " ++ decimal moves ++ ascii " cell " ++ decimal cell ++ ascii "\n"
+
 unfoldable pub legLines : ℕ → List Leg → List ℕ
 legLines i [] = []
-legLines i (l ∷ ls) =
-    ascii "leg " ++ decimal i ++ ascii " opened " ++ decimal (l .opened) ++ ascii " moves " ++ decimal (length (l .trail))
-    ++ ascii " cell " ++ decimal (l .cell) ++ ascii "\n" ++ legLines (suc i) ls
+legLines i (l ∷ ls) = legLine i (l .opened) (length (l .trail)) (l .cell) ++ legLines (suc i) ls
 
-unfoldable pub endWord : Ending → String
-endWord e = elim e [ Arrived ↦ "arrived" | CutOff ↦ "cut off" | Spent ↦ "spent" | UnderWay ↦ "under way" ]
+-- the end line: ending and totals
+unfoldable pub endLine : Ending → ℕ → ℕ → ℕ → List ℕ
+endLine e moves legs opened =
+    ascii (elim e [ Arrived ↦ "end arrived" | CutOff ↦ "end cut off" | Spent ↦ "end spent" | UnderWay ↦ "end under way" ]) ++ ascii " moves " ++ decimal moves ++ ascii " legs " ++ decimal legs ++ ascii " opened " ++ decimal opened ++ ascii "\n"
 
 unfoldable pub spaced : List ℕ → List ℕ
 spaced [] = ascii "\n"
@@ -94,9 +98,8 @@ spaced (e ∷ es) = ascii " " ++ decimal e ++ spaced es
 
 unfoldable pub trip : Walk → List ℕ
 trip w =
-    legLines 1 (w .legs) ++ ascii "end " ++ ascii (endWord (w .ending)) ++ ascii " moves " ++ decimal (length (trailOf (w .legs)))
-    ++ ascii " legs " ++ decimal (length (w .legs)) ++ ascii " opened " ++ decimal (openedIn (w .legs))
-    ++ ascii "\nestimates" ++ spaced (w .stand .est)
+    legLines 1 (w .legs) ++ endLine (w .ending) (length (trailOf (w .legs))) (length (w .legs)) (openedIn (w .legs))
+    ++ ascii "estimates" ++ spaced (w .stand .est)
 
 -- in this order: the first line's text, refusal 1, the rows' text, the other refusals; else the walk
 unfoldable pub printed : List ℕ → List ℕ

@@ -4,7 +4,7 @@ use Prim.Native.String.{String}
 use mathlib.Core.{Path._≡_, Path.refl, List.List, List.[], List._∷_, List._++_, List.map}
 use lib.ListN.{length, drop, replicate}
 use Rattle.floor.specs.Floor.{upTo, sizesOk, cells, gap, manhattan, beside, tabulate, byte, blocked, valueAt, refusal, ifAccepted, prepared}
-use Rattle.rules.specs.{Request.Request, Request.Outcome, Record.Trip, Sound.every, Sound.within, Sound.nearOk, Sound.sound, Search.start, Search.falls, Search.joins, Search.opening, Search.beats, Search.better, Search.pick, Search.taken, Search.seek, Leg.sense, Leg.lifted, Leg.raise, Leg.ours, Leg.route, Leg.barred, Leg.parked, Leg.moved, Leg.drive, Leg.last, Leg.ended, Leg.stayed, Leg.driven, Leg.followed, Leg.leg, Leg.legFrom, Leg.left, Walk.trailOf, Walk.openedIn, Walk.standing, Walk.onward, Walk.afterLeg, Walk.capped, Walk.walking, Walk.walk, Request.settingOk, Request.walkRefusal, Request.legRefusal, Request.numberOf, Request.outcome, Request.legOf, Request.legOutcome, Request.walkOf, Request.walkOutcome, Record.put, Record.got, Record.layout, Record.tripAt, Record.valuesOk, Record.recordOk, Record.writeRefusal, Record.written, Record.follows, Record.recordTests, Record.countRefusal, Record.counted, Record.readRefusal, Record.readTrip, Printer.ascii, Printer.joined, Printer.split, Printer.isNumber, Printer.valueOf, Printer.word, Printer.field, Printer.lineAt, Printer.firstLineOk, Printer.asked, Printer.rowOk, Printer.rowsOk, Printer.digits, Printer.decimal, Printer.legLines, Printer.endWord, Printer.spaced, Printer.trip, Printer.printed}
+use Rattle.rules.specs.{Request.Request, Request.Outcome, Record.Trip, Sound.every, Sound.within, Sound.nearOk, Sound.sound, Search.start, Search.falls, Search.joins, Search.opening, Search.beats, Search.better, Search.pick, Search.taken, Search.seek, Leg.sense, Leg.lifted, Leg.raise, Leg.ours, Leg.route, Leg.barred, Leg.parked, Leg.moved, Leg.drive, Leg.last, Leg.ended, Leg.stayed, Leg.driven, Leg.followed, Leg.leg, Leg.legFrom, Leg.left, Walk.trailOf, Walk.openedIn, Walk.standing, Walk.onward, Walk.afterLeg, Walk.capped, Walk.walking, Walk.walk, Request.settingOk, Request.walkRefusal, Request.legRefusal, Request.numberOf, Request.outcome, Request.legOf, Request.legOutcome, Request.walkOf, Request.walkOutcome, Record.put, Record.got, Record.layout, Record.tripAt, Record.valuesOk, Record.recordOk, Record.writeRefusal, Record.written, Record.follows, Record.recordTests, Record.countRefusal, Record.counted, Record.readRefusal, Record.readTrip, Printer.ascii, Printer.joined, Printer.split, Printer.isNumber, Printer.valueOf, Printer.word, Printer.field, Printer.lineAt, Printer.firstLineOk, Printer.asked, Printer.rowOk, Printer.rowsOk, Printer.digits, Printer.decimal, Printer.legLine, Printer.legLines, Printer.endLine, Printer.spaced, Printer.trip, Printer.printed}
 
 -- numbers of one digit each
 d : String → List ℕ
@@ -75,5 +75,5 @@ table =
     ∷ []
 
 pub all-hold : map (λ row. row .0) table ≡ map (λ row. row .1) table
-unfolding table d ask fresh flat walks refuses tripJ bytesJ printedF upTo sizesOk cells gap manhattan beside tabulate byte blocked valueAt refusal ifAccepted prepared every within nearOk sound start falls joins opening beats better pick taken seek sense lifted raise ours route barred parked moved drive last ended stayed driven followed leg legFrom left trailOf openedIn standing onward afterLeg capped walking walk settingOk walkRefusal legRefusal numberOf outcome legOf legOutcome walkOf walkOutcome put got layout tripAt valuesOk recordOk writeRefusal written follows recordTests countRefusal counted readRefusal readTrip ascii joined split isNumber valueOf word field lineAt firstLineOk asked rowOk rowsOk digits decimal legLines endWord spaced trip printed
+unfolding table d ask fresh flat walks refuses tripJ bytesJ printedF upTo sizesOk cells gap manhattan beside tabulate byte blocked valueAt refusal ifAccepted prepared every within nearOk sound start falls joins opening beats better pick taken seek sense lifted raise ours route barred parked moved drive last ended stayed driven followed leg legFrom left trailOf openedIn standing onward afterLeg capped walking walk settingOk walkRefusal legRefusal numberOf outcome legOf legOutcome walkOf walkOutcome put got layout tripAt valuesOk recordOk writeRefusal written follows recordTests countRefusal counted readRefusal readTrip ascii joined split isNumber valueOf word field lineAt firstLineOk asked rowOk rowsOk digits decimal legLine legLines endLine spaced trip printed
 all-hold = refl

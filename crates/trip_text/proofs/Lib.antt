@@ -1,0 +1,10 @@
+pub mod Words
+pub mod Pieces
+pub mod FirstLines
+pub mod Rows
+pub mod Drawing
+pub mod Judging
+pub mod Asking
+pub mod Laying
+pub mod Unique
+pub mod Long
