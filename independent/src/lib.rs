@@ -1,9 +1,9 @@
 //! Document 01 once more: the planner, the trip records and the trip printer, written from the document alone, plainly and
 //! without care for speed. The proved planner is held against it.
 //!
-//! `floor` to `printer` follow the document section by section. `wrong` has the planners that break one rule. `entries` says what
-//! each entry of the C interface is given and lends, `stub` offers these entries to C, `cases` makes calls at random, and
-//! `compare` holds a driver's answers against the right ones.
+//! `floor` to `printer` follow the document section by section. `wrong` has the planners that break one rule, and
+//! `wrong_printers` such trip printers. `entries` says what each entry of the C interface is given and lends, `stub` offers these
+//! entries to C, `cases` makes calls at random, and `compare` holds a driver's answers against the right ones.
 #![deny(unsafe_code)]
 
 #[cfg(not(target_pointer_width = "64"))]
@@ -21,3 +21,4 @@ pub mod refusals;
 pub mod stub;
 pub mod walk;
 pub mod wrong;
+pub mod wrong_printers;

@@ -13,22 +13,27 @@
 //!         Lists the wrong planners, one a line: the name, and what it does wrong. The stub, linked with driver.c in the place of
 //!         a planner, plays the one whose name the environment variable WEXLUND_WRONG holds (`nothing`: the right one).
 //!
+//!     independent wrong-trips
+//!         Lists the wrong printers in the same way. `independent trip` plays the one that WEXLUND_WRONG_TRIP names.
+//!
 //! Exit status: 0 in order; 1 a difference, or too few calls of some outcome; 2 the comparison could not be made, or wrong use.
 
 use std::env;
 use std::io::{self, Read, Write};
 use std::process::exit;
 
-use independent::{compare, printer, wrong};
+use independent::wrong_printers::{self, Printer};
+use independent::{compare, wrong};
 
 fn main() {
     let words: Vec<String> = env::args().skip(1).collect();
     let words: Vec<&str> = words.iter().map(String::as_str).collect();
     let status = match words.as_slice() {
         ["trip"] => trip(),
-        ["wrong"] => list_wrong(),
-        ["compare", seed, count, "--", command @ ..] => match (seed.parse(), count.parse(), command.split_first()) {
-            (Ok(seed), Ok(count), Some((program, arguments))) => compare::run(seed, count, program, arguments),
+        ["wrong"] => list(wrong::ALL.iter().map(|(_, name, words)| (*name, *words))),
+        ["wrong-trips"] => list(wrong_printers::ALL.iter().map(|(_, name, words)| (*name, *words))),
+        ["compare", seed, count, "--", program, arguments @ ..] => match (seed.parse(), count.parse()) {
+            (Ok(seed), Ok(count)) => compare::run(seed, count, program, arguments),
             _ => usage(),
         },
         _ => usage(),
@@ -37,13 +42,28 @@ fn main() {
 }
 
 fn trip() -> i32 {
+    let name = env::var("WEXLUND_WRONG_TRIP").unwrap_or_else(|_| "nothing".to_string());
+    let printer = match Printer::named(&name) {
+        Some(printer) => printer,
+        None => {
+            eprintln!("trip: there is no wrong printer {}", name);
+            return 2;
+        }
+    };
     let mut input = Vec::new();
-    let done = io::stdin().read_to_end(&mut input).and_then(|_| print(&printer::trip(&input)));
-    i32::from(done.is_err()) * 2
+    if io::stdin().read_to_end(&mut input).is_err() {
+        return 2;
+    }
+    let output = printer.trip(&input);
+    match print(&output) {
+        Ok(()) => printer.status(&output),
+        Err(_) => 2,
+    }
 }
 
-fn list_wrong() -> i32 {
-    let lines: Vec<String> = wrong::ALL.iter().map(|(_, name, words)| format!("{} {}\n", name, words)).collect();
+/// A line for each: its name and a few words.
+fn list<'a>(entries: impl Iterator<Item = (&'a str, &'a str)>) -> i32 {
+    let lines: Vec<String> = entries.map(|(name, words)| format!("{} {}\n", name, words)).collect();
     i32::from(print(&lines.concat()).is_err()) * 2
 }
 
@@ -54,6 +74,9 @@ fn print(text: &str) -> io::Result<()> {
 }
 
 fn usage() -> i32 {
-    eprintln!("use: independent trip < FILE | independent compare SEED COUNT -- COMMAND... | independent wrong");
+    eprintln!(
+        "use: independent trip < FILE | independent compare SEED COUNT -- COMMAND... | \
+         independent wrong | independent wrong-trips"
+    );
     2
 }

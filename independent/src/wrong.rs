@@ -4,44 +4,51 @@
 //! each fault can be read where it would be made; those of the C interface itself stand in `stub.rs`. Only the stub ever makes
 //! a wrong planner.
 
-/// A planner: the right one, or one with a single fault.
-#[derive(Clone, Copy, Debug)]
-pub struct Planner {
-    wrong: Option<Wrong>,
-}
-
-impl Planner {
-    /// The planner of document 01.
-    pub fn right() -> Planner {
-        Planner { wrong: None }
-    }
-
-    /// The planner of this name, `nothing` being the right one; none if no planner has it.
-    pub fn named(name: &str) -> Option<Planner> {
-        if name == "nothing" {
-            return Some(Planner::right());
+/// Declares what is right or has a single fault, the enum of its faults, and `ALL` of them, each with its name and a few words.
+macro_rules! right_or_wrong {
+    ($(#[$of_it:meta])* $it:ident $(#[$of_wrong:meta])* $wrong:ident $($fault:ident $name:literal $words:literal)*) => {
+        $(#[$of_it])*
+        #[derive(Clone, Copy, Debug)]
+        pub struct $it {
+            wrong: Option<$wrong>,
         }
-        let entry = ALL.iter().find(|entry| entry.1 == name)?;
-        Some(Planner { wrong: Some(entry.0) })
-    }
 
-    pub(crate) fn is(&self, wrong: Wrong) -> bool {
-        self.wrong == Some(wrong)
-    }
-}
+        impl $it {
+            /// The one of document 01.
+            pub fn right() -> $it {
+                $it { wrong: None }
+            }
 
-macro_rules! wrongs {
-    ($($fault:ident $name:literal $words:literal)*) => {
-        /// What a wrong planner does wrong.
+            /// The one of this name, `nothing` being the right one; none if there is no such name.
+            pub fn named(name: &str) -> Option<$it> {
+                if name == "nothing" {
+                    return Some($it::right());
+                }
+                let entry = ALL.iter().find(|entry| entry.1 == name)?;
+                Some($it { wrong: Some(entry.0) })
+            }
+
+            pub(crate) fn is(&self, wrong: $wrong) -> bool {
+                self.wrong == Some(wrong)
+            }
+        }
+
+        $(#[$of_wrong])*
         #[derive(Clone, Copy, PartialEq, Eq, Debug)]
-        pub enum Wrong { $($fault,)* }
+        pub enum $wrong { $($fault,)* }
 
-        /// Every fault with its planner's name and a few words.
-        pub const ALL: &[(Wrong, &str, &str)] = &[$((Wrong::$fault, $name, $words),)*];
+        /// Every fault with its name and a few words.
+        pub const ALL: &[($wrong, &str, &str)] = &[$(($wrong::$fault, $name, $words),)*];
     };
 }
+pub(crate) use right_or_wrong;
 
-wrongs! {
+right_or_wrong! {
+    /// A planner: the right one, or one with a single fault.
+    Planner
+    /// What a wrong planner does wrong.
+    Wrong
+
     // Choosing the next cell.
     SmallerG "smaller-g" "among equal sums it takes the smaller g"
     HigherCell "higher-cell" "last ties go to the higher cell number"
