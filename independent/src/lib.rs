@@ -3,7 +3,8 @@
 //!
 //! `floor` to `printer` follow the document section by section. `wrong` has the planners that break one rule, and
 //! `wrong_printers` such trip printers. `entries` says what each entry of the C interface is given and lends, `stub` offers these
-//! entries to C, `cases` makes calls at random, and `compare` holds a driver's answers against the right ones.
+//! entries to C, `cases` makes calls and texts at random, and `compare` holds a driver's answers, or what a printer prints,
+//! against what is right.
 #![deny(unsafe_code)]
 
 #[cfg(not(target_pointer_width = "64"))]

@@ -9,6 +9,11 @@
 //!         number, cell and byte that comes back against what is right. The same seed gives the same calls. The first difference
 //!         is printed with its whole call. `src/compare/driver.rs` has the protocol.
 //!
+//!     independent trips SEED COUNT -- COMMAND...
+//!         Runs COMMAND once for each of COUNT texts made at random from SEED, lawful and damaged ones, with the text as standard
+//!         input, and holds what it prints against what is right; its exit status has to be 0. The first difference is printed
+//!         with its whole text. A run may take 10 seconds.
+//!
 //!     independent wrong
 //!         Lists the wrong planners, one a line: the name, and what it does wrong. The stub, linked with driver.c in the place of
 //!         a planner, plays the one whose name the environment variable WEXLUND_WRONG holds (`nothing`: the right one).
@@ -16,7 +21,8 @@
 //!     independent wrong-trips
 //!         Lists the wrong printers in the same way. `independent trip` plays the one that WEXLUND_WRONG_TRIP names.
 //!
-//! Exit status: 0 in order; 1 a difference, or too few calls of some outcome; 2 the comparison could not be made, or wrong use.
+//! Exit status: 0 in order; 1 a difference, or too few calls or texts of some outcome; 2 the comparison could not be made, or
+//! wrong use.
 
 use std::env;
 use std::io::{self, Read, Write};
@@ -32,8 +38,9 @@ fn main() {
         ["trip"] => trip(),
         ["wrong"] => list(wrong::ALL.iter().map(|(_, name, words)| (*name, *words))),
         ["wrong-trips"] => list(wrong_printers::ALL.iter().map(|(_, name, words)| (*name, *words))),
-        ["compare", seed, count, "--", program, arguments @ ..] => match (seed.parse(), count.parse()) {
-            (Ok(seed), Ok(count)) => compare::run(seed, count, program, arguments),
+        [what @ ("compare" | "trips"), seed, count, "--", program, arguments @ ..] => match (seed.parse(), count.parse()) {
+            (Ok(seed), Ok(count)) if *what == "compare" => compare::run(seed, count, program, arguments),
+            (Ok(seed), Ok(count)) => compare::trips::run(seed, count, program, arguments),
             _ => usage(),
         },
         _ => usage(),
@@ -76,7 +83,7 @@ fn print(text: &str) -> io::Result<()> {
 fn usage() -> i32 {
     eprintln!(
         "use: independent trip < FILE | independent compare SEED COUNT -- COMMAND... | \
-         independent wrong | independent wrong-trips"
+         independent trips SEED COUNT -- COMMAND... | independent wrong | independent wrong-trips"
     );
     2
 }

@@ -1,10 +1,12 @@
-//! Calls made at random: lawful ones and damaged ones, of every entry. The same seed and number always give the same call.
+//! Calls made at random: lawful ones and damaged ones, of every entry. The same seed and number always give the same call. `texts`
+//! makes what the trip printer is given.
 
 pub mod damage;
 pub mod plans;
 pub mod record_files;
 pub mod rng;
 pub mod scenes;
+pub mod texts;
 
 use crate::entries::{Call, Given, ENTRIES};
 use crate::host::Cart;

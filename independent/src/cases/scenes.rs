@@ -32,6 +32,17 @@ pub fn sizes(rng: &mut Rng) -> Floor {
 /// A scene of an arbitrary kind.
 pub fn scene(rng: &mut Rng) -> Scene {
     let floor = sizes(rng);
+    let mut scene = fresh(rng, floor);
+    match rng.below(20) {
+        0..=7 => {}
+        8..=14 => learn(rng, &mut scene),
+        _ => invent(rng, &mut scene),
+    }
+    scene
+}
+
+/// A scene of which the cart has learned nothing yet.
+pub fn fresh(rng: &mut Rng, floor: Floor) -> Scene {
     let goal = rng.below(floor.cells());
     let mut plan = plans::plan(rng, floor, goal);
     match rng.below(10) {
@@ -44,11 +55,6 @@ pub fn scene(rng: &mut Rng) -> Scene {
     let mut scene = Scene { maps: Maps { floor, plan, known, est }, cart: goal, goal };
     if !rng.chance(4) {
         scene.cart = open_cell(rng, &scene.maps.plan);
-    }
-    match rng.below(20) {
-        0..=7 => {}
-        8..=14 => learn(rng, &mut scene),
-        _ => invent(rng, &mut scene),
     }
     scene
 }

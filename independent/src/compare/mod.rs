@@ -3,6 +3,7 @@
 mod driver;
 mod show;
 mod table;
+pub mod trips;
 
 use crate::cases;
 use crate::entries::{Call, ENTRIES};
