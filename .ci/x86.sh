@@ -12,18 +12,12 @@
 # The compiler is installed from Debian's packages if it is not there. Programs are linked with -static, so that the emulator
 # needs neither a loader nor a C library. What this file says goes to standard error.
 
+source .ci/kit.sh
 x86_cc=(gcc -static)
-x86_run=()
 x86_packages=(gcc libc6-dev)
 if [ "$(uname -m)" != x86_64 ]; then
     x86_cc=(x86_64-linux-gnu-gcc -static)
     x86_packages=(gcc-x86-64-linux-gnu libc6-dev-amd64-cross)
-    x86_kit=${RATTLE_HOME:-$(dirname "$(dirname "$(readlink -f "$(command -v rt)")")")}
-    x86_run=("$x86_kit/on/$(uname -m)/toolchain/bin/qemu-x86_64")
-    [ -x "${x86_run[0]}" ] || {
-        echo "x86.sh: the kit at $x86_kit has no emulator for x86-64 programs on this machine" >&2
-        exit 1
-    }
 fi
 
 # A compiler that is there may still lack the C library that programs are linked with.
