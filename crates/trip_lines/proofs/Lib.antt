@@ -1,0 +1,5 @@
+pub mod Listing
+pub mod Placing
+pub mod Saying
+pub mod Spelling
+pub mod Unique
