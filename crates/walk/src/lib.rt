@@ -81,7 +81,7 @@ fn ended(walked: Tally, ending: Ending) -> WalkDone
 }
 
 // The smaller of the move limit and the moves left.
-fn leg_limit(limit: MoveLimit, allowance: usize, made: usize) -> MoveLimit
+pub fn leg_limit(limit: MoveLimit, allowance: usize, made: usize) -> MoveLimit
     requires { ⌜ made ≤ allowance ⌝ }
     ensures { λ r. ⌜ r .0 ≡ min (limit .0) (allowance - made) ⌝ }
 {
