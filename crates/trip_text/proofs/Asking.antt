@@ -23,6 +23,7 @@ use Rattle.theory.proofs.Accepts.{Accepted, accepted}
 use Rattle.trip_text.specs.declared.{Errand.Errand, Heard.Heard, Heard.the-variants.BadInput, Heard.the-variants.Refused, Heard.the-variants.Asked}
 use Rattle.trip_text.specs.Parts.{lineOk, errandOf, restOk, mark, errandRefusal, judged}
 use Rattle.trip_text.specs.Heard.{errandIn, heardIn}
+use Rattle.trip_text.proofs.Forms.{test, refuses, heard-as, heard}
 use Rattle.trip_text.proofs.Judging.{bad-sizes, bad-rows}
 use Rattle.trip_text.proofs.Pieces.{first-piece, last-piece, split-some}
 
@@ -50,27 +51,13 @@ unfolding refusal
 first-fails t l e = rw e
 
 module _ (text : List ℕ) where
-  abbrev pub r : Request
+  abbrev r : Request
   r = asked text
 
-  abbrev pub f : Floor
+  abbrev f : Floor
   f = errandIn text .floor
 
-  abbrev pub refuses : ℕ
-  refuses = walkRefusal (field (lineAt text 0) 6) r
-
-  -- what is heard, by the test of the text and the refusal
-  heard-as : Bool → ℕ → Heard
-  heard-as t n = elim t [ false ↦ BadInput | true ↦ elim n [ zero ↦ Asked (errandIn text) | suc n ↦ Refused (suc n) ] ]
-
-  abbrev pub test : Bool
-  test = firstLineOk text && (not (sizesOk f) || rowsOk text (f .width) (f .height))
-
-  heard : heardIn text ≡ heard-as test refuses
-  unfolding heard-as heardIn errandIn asked
-  heard = refl
-
-  pub sizes-refused : sizesOk f ≡ false → refuses ≡ 1
+  pub sizes-refused : sizesOk f ≡ false → refuses text ≡ 1
   unfolding errandIn asked walkRefusal
   sizes-refused s = first-fails (sizesOk f) _ s
 
@@ -144,7 +131,7 @@ module _ (text : List ℕ) where
       unfolding mark
       marks w x = ap (λ (l : List ℕ). eqb (getD l (x % w) 0) 35) (row-is (x / w))
 
-      walk-refusal : sizesOk f ≡ true → refuses ≡ errandRefusal rows (errandIn text)
+      walk-refusal : sizesOk f ≡ true → refuses text ≡ errandRefusal rows (errandIn text)
       unfolding errandIn asked walkRefusal errandRefusal prepared blocked Within
       walk-refusal s =
           let n = cells f in
@@ -164,23 +151,23 @@ module _ (text : List ℕ) where
           (λ a. blocked-tabulate n plan (e .start) (ltb-true (e .start) n (and-1 _ _ a)) ∙ marks (f .width) (e .start))
           (λ a. sound-test f _ _ (e .goal) (prepared-sound f _ (e .goal) (sides f s .some-width) (ltb-true (e .goal) n (and-2 (ltb (e .start) n) _ a))))
 
-      lawful : sizesOk f ≡ true → restOk rows (f .width) (f .height) ≡ true → heard-as true (errandRefusal rows (errandIn text)) ≡ judged rows (errandIn text)
+      lawful : sizesOk f ≡ true → restOk rows (f .width) (f .height) ≡ true → heard-as text true (errandRefusal rows (errandIn text)) ≡ judged rows (errandIn text)
       unfolding heard-as judged
       lawful s l = rw (s, l, judged)
 
       heard-is : firstLineOk text ≡ true → heardIn text ≡ judged rows (errandIn text)
       unfolding heard-as
-      heard-is first = heard ∙ elim (both (sizesOk f)) [
+      heard-is first = heard text ∙ elim (both (sizesOk f)) [
         | inl s ↦
-            let by : test ≡ restOk rows (f .width) (f .height) =
+            let by : test text ≡ restOk rows (f .width) (f .height) =
             (λ i. first i && (not (s i) || rows-are (f .width) (f .height) i)) in
             elim (both (restOk rows (f .width) (f .height))) [
-              | inl l ↦ ap₂ heard-as (by ∙ l) (walk-refusal s) ∙ lawful s l
-              | inr l ↦ ap (λ (t : Bool). heard-as t refuses) (by ∙ l) ∙ bad-rows rows (errandIn text) s l
+              | inl l ↦ ap₂ (heard-as text) (by ∙ l) (walk-refusal s) ∙ lawful s l
+              | inr l ↦ ap (λ (t : Bool). heard-as text t (refuses text)) (by ∙ l) ∙ bad-rows rows (errandIn text) s l
             ]
         | inr s ↦
-            let by : test ≡ true = (λ i. first i && (not (s i) || rowsOk text (f .width) (f .height))) in
-            ap₂ heard-as by (sizes-refused s) ∙ bad-sizes rows (errandIn text) s
+            let by : test text ≡ true = (λ i. first i && (not (s i) || rowsOk text (f .width) (f .height))) in
+            ap₂ (heard-as text) by (sizes-refused s) ∙ bad-sizes rows (errandIn text) s
       ]
 
       -- a first line that is lawful or not, as the code tests it
@@ -202,24 +189,24 @@ module _ (text : List ℕ) where
     errandOr (Refused n) = e
     errandOr (Asked e) = e
 
-    passed : test ≡ true
+    passed : test text ≡ true
     unfolding heard-as trip
-    passed = elim (both test) [ inl t ↦ t | inr t ↦ absurd (true≢false (ap trip (sym asks ∙ heard ∙ ap (λ (t : Bool). heard-as t refuses) t))) ]
+    passed = elim (both (test text)) [ inl t ↦ t | inr t ↦ absurd (true≢false (ap trip (sym asks ∙ heard text ∙ ap (λ (t : Bool). heard-as text t (refuses text)) t))) ]
 
-    accepted-as : (n : ℕ) → heard-as true n ≡ Asked e → n ≡ 0
+    accepted-as : (n : ℕ) → heard-as text true n ≡ Asked e → n ≡ 0
     unfolding heard-as trip
     accepted-as zero h = refl
     accepted-as (suc n) h = absurd (true≢false (sym (ap trip h)))
 
-    told : heard-as true refuses ≡ Asked e
-    told = ap (λ (t : Bool). heard-as t refuses) (sym passed) ∙ sym heard ∙ asks
+    told : heard-as text true (refuses text) ≡ Asked e
+    told = ap (λ (t : Bool). heard-as text t (refuses text)) (sym passed) ∙ sym (heard text) ∙ asks
 
-    refuses-none : refuses ≡ 0
-    refuses-none = accepted-as refuses told
+    refuses-none : refuses text ≡ 0
+    refuses-none = accepted-as (refuses text) told
 
     pub errand : errandIn text ≡ e
     unfolding heard-as errandOr
-    errand = ap errandOr (ap (heard-as true) (sym refuses-none) ∙ told)
+    errand = ap errandOr (ap (heard-as text true) (sym refuses-none) ∙ told)
 
     abbrev tests : Accepted (field (lineAt text 0) 6) r
     tests = accepted _ r refuses-none

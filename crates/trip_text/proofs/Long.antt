@@ -14,15 +14,15 @@ use Rattle.bytes.specs.Bytes.{slice, indexAfter, indexOf}
 use Rattle.floor.specs.Floor.{sizesOk}
 use Rattle.floor.proofs.Tools.{both, and-1, and-2, refute}
 use Rattle.floor.proofs.Grid.{sides}
-use Rattle.rules.specs.Printer.{ascii, joined, split, isNumber, word, field, lineAt, firstLineOk, asked, rowsOk, decimal, trip, printed}
-use Rattle.rules.specs.Request.{walkOf}
+use Rattle.rules.specs.Printer.{ascii, joined, split, isNumber, word, field, firstLineOk, rowsOk, decimal, printed}
 use Rattle.theory.proofs.Soundness.{every-at}
 use Rattle.trip_text.specs.Parts.{inPlace, lineOk}
 use Rattle.trip_text.specs.Heard.{errandIn, LongTexts}
+use Rattle.trip_text.proofs.Forms.{f, refuses, printed-as, printed-is}
 use Rattle.trip_text.proofs.Words.{placed-long}
 use Rattle.trip_text.proofs.Pieces.{split-some}
 use Rattle.trip_text.proofs.Rows.{rows-long}
-use Rattle.trip_text.proofs.Asking.{f, r, test, refuses, sizes-refused, feeds, line-is, first-is, rows-are}
+use Rattle.trip_text.proofs.Asking.{sizes-refused, feeds, line-is, first-is, rows-are}
 
 -- pieces with the byte after each
 sumOf : List (List ℕ) → ℕ
@@ -106,16 +106,6 @@ module _ (text : List ℕ) where
   small : Bool
   small = firstLineOk text && not (sizesOk (f text))
 
-  said : Bool → ℕ → List ℕ
-  said t n = elim t [
-    | false ↦ ascii "bad input\n"
-    | true ↦ elim n [ zero ↦ trip (walkOf (field (lineAt text 0) 6) (r text)) | suc n ↦ ascii "refused " ++ decimal (suc n) ++ ascii "\n" ]
-  ]
-
-  is-said : printed text ≡ said (test text) (refuses text)
-  unfolding said printed errandIn asked
-  is-said = refl
-
   too-long : 4230 < length text → firstLineOk text ≡ true → sizesOk (f text) ≡ true → rowsOk text (f text .width) (f text .height) ≡ false
   too-long lt ok s = refute _ (λ t.
       let inside = feeds text ok in
@@ -126,14 +116,14 @@ module _ (text : List ℕ) where
       omega (arith, lt, inside, small-line ok, length-drop (end + 1) text, long, most))
 
   over : 4230 < length text → printed text ≡ answer small
-  unfolding said small answer
-  over lt = is-said ∙ elim (both (firstLineOk text)) [
+  unfolding printed-as small answer
+  over lt = printed-is text ∙ elim (both (firstLineOk text)) [
     | inl ok ↦ elim (both (sizesOk (f text))) [
       | inl s ↦
-          (λ i. said (ok i && (not (s i) || too-long lt ok s i)) (refuses text)) ∙ sym (λ i. answer (ok i && not (s i)))
-      | inr s ↦ (λ i. said (ok i && (not (s i) || rowsOk text (f text .width) (f text .height))) (sizes-refused text s i)) ∙ sym (λ i. answer (ok i && not (s i)))
+          (λ i. printed-as text (ok i && (not (s i) || too-long lt ok s i)) (refuses text)) ∙ sym (λ i. answer (ok i && not (s i)))
+      | inr s ↦ (λ i. printed-as text (ok i && (not (s i) || rowsOk text (f text .width) (f text .height))) (sizes-refused text s i)) ∙ sym (λ i. answer (ok i && not (s i)))
     ]
-    | inr bad ↦ (λ i. said (bad i && (not (sizesOk (f text)) || rowsOk text (f text .width) (f text .height))) (refuses text)) ∙ sym (λ i. answer (bad i && not (sizesOk (f text))))
+    | inr bad ↦ (λ i. printed-as text (bad i && (not (sizesOk (f text)) || rowsOk text (f text .width) (f text .height))) (refuses text)) ∙ sym (λ i. answer (bad i && not (sizesOk (f text))))
   ]
 
 -- the front tells as much as the whole
