@@ -9,7 +9,7 @@ use independent::leg::Ending::{Arrived, CutOff, Spent, UnderWay};
 use independent::leg::Leg;
 use independent::wrong::Planner;
 
-/// Reading 2: step a senses nothing.
+/// Step a senses nothing.
 #[test]
 fn on_the_goal_nothing_is_sensed() {
     let mut maps = fresh(&[".#"], 0);
@@ -18,7 +18,7 @@ fn on_the_goal_nothing_is_sensed() {
     assert_eq!(maps, fresh(&[".#"], 0));
 }
 
-/// Reading 4: on one cell only an estimate of 0 is sound.
+/// On one cell only an estimate of 0 is sound.
 #[test]
 fn one_cell() {
     let mut maps = fresh(&["."], 0);
@@ -27,7 +27,7 @@ fn one_cell() {
     assert_eq!(leg(&mut maps, task(0, 0, 1, 1)), Err(9));
 }
 
-/// Reading 7: with the frontier empty just as the lookahead is used up there is no target; its opened cells are reported.
+/// With the frontier empty just as the lookahead is used up there is no target; its opened cells are reported.
 #[test]
 fn an_empty_frontier_and_a_used_up_lookahead() {
     for lookahead in [2, 3] {
@@ -39,14 +39,14 @@ fn an_empty_frontier_and_a_used_up_lookahead() {
     }
 }
 
-/// Reading 7: the lookahead used up with the goal next names the same target, and the leg arrives.
+/// The lookahead used up with the goal next names the same target, and the leg arrives.
 #[test]
 fn a_used_up_lookahead_with_the_goal_next() {
     let (leg, _) = leg(&mut fresh(&["..."], 2), task(0, 2, 2, 4096)).expect("accepted");
     assert_eq!(leg, Leg { ending: Arrived, cell: 2, moves: 2, opened: 2 });
 }
 
-/// Reading 8: a lookahead larger than the floor is nothing special.
+/// A lookahead larger than the floor is nothing special.
 #[test]
 fn a_lookahead_larger_than_the_floor() {
     let (one, many) = (task(0, 2, 3, 9), task(0, 2, 4096, 9));
@@ -55,7 +55,7 @@ fn a_lookahead_larger_than_the_floor() {
     assert_eq!(maps, same);
 }
 
-/// Readings 11 and 12: a cut-off leg leaves estimates, cart and trail; what it sensed stays; walk and host count it.
+/// A cut-off leg leaves estimates, cart and trail; what it sensed stays; walk and host count it.
 #[test]
 fn a_cut_off_leg() {
     let mut maps = fresh(&[".#."], 2);
@@ -69,7 +69,7 @@ fn a_cut_off_leg() {
     assert_eq!(cart, Cart { cell: 0, moves: 0, opened: 1, legs: 1 });
 }
 
-/// Reading 13: the cart stops when a cell ahead is now known blocked. Here it sees from cell 1 that cell 2 is.
+/// The cart stops when a cell ahead is now known blocked. Here it sees from cell 1 that cell 2 is.
 #[test]
 fn the_look_ahead() {
     let mut maps = fresh(&["..#.", "...."], 3);
@@ -78,7 +78,7 @@ fn the_look_ahead() {
     assert_eq!(maps.known, [0, 0, 1, 0, 0, 0, 0, 0]);
 }
 
-/// Reading 14: the cart senses after its last move too, on the goal and at the move limit.
+/// The cart senses after its last move too, on the goal and at the move limit.
 #[test]
 fn sensing_after_the_last_move() {
     let mut maps = fresh(&["..#"], 1);
@@ -89,7 +89,7 @@ fn sensing_after_the_last_move() {
     assert_eq!(maps.known, [0, 0, 0, 0, 0, 1, 0, 0]);
 }
 
-/// Reading 18: on the goal the host's total of legs that searched doesn't rise.
+/// On the goal the host's total of legs that searched doesn't rise.
 #[test]
 fn the_host_on_the_goal() {
     let before = Cart { cell: 1, moves: 5, opened: 6, legs: 7 };
@@ -107,7 +107,7 @@ fn the_hosts_totals() {
     assert_eq!(cart, Cart { cell: 3, moves: 13, opened: u32::MAX, legs: u32::MAX });
 }
 
-/// Reading 19: the goal comes before the allowance, and with none left nothing is sensed.
+/// The goal comes before the allowance, and with none left nothing is sensed.
 #[test]
 fn goal_before_allowance() {
     let ending = |cart, allowance| walk(&mut fresh(&["..."], 2), task(cart, 2, 1, 1), allowance).map(|(walk, _)| walk.ending);

@@ -105,7 +105,7 @@ fn trails() {
     refused(0, |outing| outing.trail = 3);
 }
 
-/// Readings 15 and 21: a leg's trail is held against the limit, a walk's against the allowance alone.
+/// A leg's trail is held against the limit, a walk's against the allowance alone.
 #[test]
 fn what_a_trail_is_held_against() {
     let planner = Planner::right();
@@ -119,7 +119,7 @@ fn what_a_trail_is_held_against() {
     }
 }
 
-/// Reading 20: the limit is tested as given, even with nothing left.
+/// The limit is tested as given, even with nothing left.
 #[test]
 fn a_walks_limit_is_tested_as_given() {
     let mut outing = lawful();
@@ -142,7 +142,7 @@ fn bytes_and_blocks() {
 
 #[test]
 fn soundness() {
-    // The goal's is 0, even where no pair breaks, and where the goal is known blocked (reading 3).
+    // The goal's is 0, even where no pair breaks, and where the goal is known blocked.
     refused(9, |outing| outing.maps.est.iter_mut().for_each(|est| *est += 1));
     refused(9, |outing| {
         outing.maps.plan[11] = 1;
@@ -166,7 +166,7 @@ fn soundness() {
     refused(0, |outing| outing.maps.est = vec![0; 12]);
 }
 
-/// Reading 3: soundness is tested before sensing, which would take the pair out.
+/// Soundness is tested before sensing, which would take the pair out.
 #[test]
 fn soundness_by_the_known_map_as_given() {
     let mut maps = fresh(&[".#."], 2);
@@ -200,7 +200,7 @@ fn the_order() {
     }
 }
 
-/// Reading 1: a cart on its goal is refused like any other.
+/// A cart on its goal is refused like any other.
 #[test]
 fn on_the_goal_too() {
     let on_goal = |outing: &mut Outing| outing.task.cart = 11;
@@ -221,7 +221,7 @@ fn on_the_goal_too() {
     }
 }
 
-/// Reading 24: prepare has 1, 2 for the estimates and 3 for the goal. Reading 25: required has 1 and 3.
+/// Prepare has 1, 2 for the estimates and 3 for the goal; required has 1 and 3.
 #[test]
 fn prepare_and_required() {
     let planner = Planner::right();

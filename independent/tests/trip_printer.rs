@@ -39,7 +39,7 @@ fn the_other_endings() {
     );
 }
 
-/// Reading 41.
+/// With no moves allowed no leg is made.
 #[test]
 fn an_allowance_of_0() {
     prints("2 1 0 1 1 1 0\n..\n", "end spent moves 0 legs 0 opened 0\nestimates 1 0\n");
@@ -52,17 +52,17 @@ fn faults_of_the_first_line() {
         "",
         "3 2 0 2 1 1",
         "3 2 0 2 1 1 100 1",
-        // Readings 32 and 34: ten digits, and an allowance above 16,384.
+        // Ten digits, and an allowance above 16,384.
         "3 2 0 2 1 1 0000000100",
         "0000000003 2 0 2 1 1 100",
         "3 2 0 2 1 1 16385",
-        // Reading 33: a dash in another place, or with more.
+        // A dash in another place, or with more.
         "- 2 0 2 1 1 100",
         "3 2 0 2 - 1 100",
         "3 2 0 2 1 1 -",
         "3 2 0 2 1 -1 100",
         "3 2 0 2 1 -- 100",
-        // Reading 38.
+        // Other white space and signs.
         " 3 2 0 2 1 1 100",
         "3 2 0 2 1 1 100 ",
         "3  2 0 2 1 1 100",
@@ -105,14 +105,14 @@ fn faults_of_the_rows() {
 
 #[test]
 fn refusals_and_their_order() {
-    // Refusal 1 comes after the first line's text and before the rows' (readings 34, 36 and 37).
+    // Refusal 1 comes after the first line's text and before the rows'.
     prints("65 1 0 0 1 1 16385\n", "bad input\n");
     prints("65 1 0 0 1 1 16384\n", "refused 1\n");
     prints("65 1 0 0 1 1 16384\nno floor has \0 these\n", "refused 1\n");
     prints("65 1 0 0 1 1 16384", "bad input\n");
     prints("0 1 0 0 1 1 1\n\n", "refused 1\n");
     prints("999999999 999999999 0 0 1 1 1\n", "refused 1\n");
-    // The others come after the rows' text (readings 35 and 39).
+    // The others come after the rows' text.
     prints("2 1 2 0 0 0 1\n.x\n", "bad input\n");
     prints("2 1 2 0 0 0 1\n..\n", "refused 3\n");
     prints("2 1 0 2 0 0 1\n..\n", "refused 3\n");

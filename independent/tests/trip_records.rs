@@ -53,7 +53,7 @@ fn values_within_the_rules() {
 fn each_rule_broken_alone() {
     let changes: [fn(&mut Record); 19] = [
         |record| record.ending = 0,
-        // Reading 27: under way is no ending of a trip.
+        // Under way is no ending of a trip.
         |record| record.ending = 4,
         |record| record.ending = 255,
         |record| record.start = 4096,
@@ -62,7 +62,7 @@ fn each_rule_broken_alone() {
         |record| (record.ending, record.goal, record.last) = (1, 4096, 4096),
         |record| record.ending = 1,
         |record| record.last = 9,
-        // Reading 23: spent on the goal.
+        // Spent on the goal.
         |record| (record.ending, record.last) = (3, 9),
         |record| record.moves = 16_769_026,
         |record| record.moves = u32::MAX,
@@ -109,7 +109,7 @@ fn file(serials: &[u16]) -> Vec<u8> {
 fn serials() {
     let count = |serials: &[u16]| Planner::right().count(&file(serials));
     assert_eq!(count(&[]), Ok(0));
-    // Reading 29: the first may be any.
+    // The first may be any.
     assert_eq!(count(&[40_000]), Ok(1));
     assert_eq!(count(&[65_534, 65_535, 0, 1]), Ok(4));
     for serials in [[7, 7], [7, 9], [7, 6], [65_535, 1], [65_535, 65_535], [0, 65_535], [255, 0]] {
@@ -132,7 +132,7 @@ fn lengths() {
     assert_eq!(Planner::right().count(&bytes), Err(10));
 }
 
-/// Reading 28: the first record with any fault decides, 11 before 12 in it.
+/// The first record with any fault decides, 11 before 12 in it.
 #[test]
 fn record_by_record() {
     let count = |serials: &[u16], bad_record: usize| {
@@ -145,7 +145,7 @@ fn record_by_record() {
     assert_eq!(count(&[1, 3, 4], 1), Err(11));
 }
 
-/// Readings 30 and 31.
+/// A number past the end is refused once the whole file has passed; a record is read whole.
 #[test]
 fn reading_by_number() {
     let read = |bytes: &[u8], number: usize| Planner::right().read(bytes, number);
