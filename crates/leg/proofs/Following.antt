@@ -18,9 +18,9 @@ use Rattle.theory.proofs.Picks.{Least}
 use Rattle.theory.proofs.Seeks.{Sought, sought}
 use Rattle.theory.proofs.Ahead.{length-route, unbarred, on-floor}
 use Rattle.search.specs.declared.Planned.the-variants as P
-use Rattle.search.specs.Room.{columns, routeFrom, holding}
+use Rattle.room.specs.Layout.{columns, routeFrom, holding}
 use Rattle.search.specs.Episode.{halted, planned}
-use Rattle.search.proofs.Holding.{route-held, holds-route}
+use Rattle.room.proofs.Holding.{route-held, holds-route}
 use Rattle.leg.specs.Moving.{Ahead}
 
 same-count : (o n : ℕ) → P.CutOff o ≡ P.CutOff n → o ≡ n

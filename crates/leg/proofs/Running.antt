@@ -27,7 +27,7 @@ use Rattle.theory.proofs.Outcomes.{refused-outcome}
 use Rattle.refusals.specs.Given.{given}
 use Rattle.search.specs.declared.Planned.{Planned}
 use Rattle.search.specs.declared.Planned.the-variants as P
-use Rattle.search.specs.Room.{columns, routeFrom, holding}
+use Rattle.room.specs.Layout.{columns, routeFrom, holding}
 use Rattle.search.specs.Episode.{planned, episodeOf, EpisodePromise}
 use Rattle.leg.specs.declared.{LegDone.LegDone, LegAnswer.the-variants.Done, LegAnswer.the-variants.Refused}
 use Rattle.leg.specs.Moving.{Maps, marked, Marked, Came}

@@ -16,7 +16,7 @@ ghost use Rattle.floor.specs.Floor.{cells, beside, neighbour, leadsTo, blocked}
 ghost use Rattle.rules.specs.Leg.{sense, barred, drive, ended, driven};
 ghost use Rattle.rules.specs.Request.{legRefusal};
 ghost use Rattle.refusals.specs.Given.{given};
-ghost use Rattle.search.specs.Room.{columns, routeFrom, holding};
+ghost use Rattle.room.specs.Layout.{columns, routeFrom, holding};
 ghost use Rattle.leg.specs.declared.LegAnswer.the-variants.{Done};
 ghost use Rattle.leg.specs.Promise.{LegPromise};
 ghost use Rattle.leg.specs.Moving.{Maps, Marked, firstBlocked, Ahead, Looked, Driven, Came};
@@ -62,7 +62,7 @@ fn first_blocked(floor: Floor, known: &[u8], room: &[u16], from: usize, moves: u
         if moves <= i {
             break i;
         }
-        let cell = search::route_cell(room, i) as usize;
+        let cell = room::route_cell(room, i) as usize;
         if known[cell] == 1 {
             break i;
         }
@@ -128,7 +128,7 @@ fn drive(
     let mut moves = 0;
     let mut cell = cart as u16;
     while moves < most {
-        cell = search::route_cell(room, moves);
+        cell = room::route_cell(room, moves);
         trail[moves] = cell;
         moves += 1;
         if sense_and_look(floor, plan, known, room, cell as usize, moves, ahead) {
@@ -182,7 +182,7 @@ fn follow(
         × ((est : ℕ → ℕ) → Came (driven cart goal count est (drive (sense floor (blocked (now (plan .entry)))) (limit .0) (blocked (now (known .entry))) (routeFrom (now (room .entry)) 0 ahead))) r (now (known .exit)) (now (trail .entry)) (now (trail .exit))) ⌝ }
 {
     let drove = drive(floor, plan, known, room, ahead, cart, limit.0, trail);
-    search::forget(room, ahead);
+    room::forget(room, ahead);
     LegDone {
         ending: ending_at(drove.cell, goal),
         cell: drove.cell,
@@ -285,8 +285,8 @@ pub fn leg(
     if refused != 0 {
         return LegAnswer::Refused(refused, cart);
     }
-    let n = floor.cells() * search::COLUMNS;
-    let mut room = search::new_room();
+    let n = floor.cells() * room::COLUMNS;
+    let mut room = room::new_room();
     let done = run_leg(
         floor,
         plan,

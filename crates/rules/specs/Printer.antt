@@ -87,10 +87,10 @@ unfoldable pub legLines : ℕ → List Leg → List ℕ
 legLines i [] = []
 legLines i (l ∷ ls) = legLine i (l .opened) (length (l .trail)) (l .cell) ++ legLines (suc i) ls
 
--- the end line: ending and totals
 unfoldable pub endLine : Ending → ℕ → ℕ → ℕ → List ℕ
-endLine e moves legs opened =
-    ascii (elim e [ Arrived ↦ "end arrived" | CutOff ↦ "end cut off" | Spent ↦ "end spent" | UnderWay ↦ "end under way" ]) ++ ascii " moves " ++ decimal moves ++ ascii " legs " ++ decimal legs ++ ascii " opened " ++ decimal opened ++ ascii "\n"
+endLine e moves legs opened =  -- ending and totals
+    ascii (elim e [ Arrived ↦ "end arrived" | CutOff ↦ "end cut off" | Spent ↦ "end spent" | UnderWay ↦ "end under way" ])
+    ++ ascii " moves " ++ decimal moves ++ ascii " legs " ++ decimal legs ++ ascii " opened " ++ decimal opened ++ ascii "\n"
 
 unfoldable pub spaced : List ℕ → List ℕ
 spaced [] = ascii "\n"

@@ -14,7 +14,7 @@ use Rattle.floor.specs.Floor.{tabulate, valueAt}
 use Rattle.floor.proofs.Tools.{both, clash, or-cases, or-f1, or-f2}
 use Rattle.floor.proofs.Boards.{Filled, filled-all}
 use Rattle.search.specs.Room.{columns, column, among, Noted, routeFrom, held, holding}
-use Rattle.search.proofs.Tracing.{held-route, held-zero, route-in, route-out}
+use Rattle.room.proofs.Routes.{held-route, held-zero, route-in, route-out}
 
 -- ---- any places, written in any order
 

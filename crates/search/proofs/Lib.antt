@@ -7,10 +7,8 @@ pub mod Showing
 pub mod Offering
 pub mod Picking
 pub mod Seeking
-pub mod Sweeping
 pub mod Tracing
 pub mod Gathering
 pub mod Raising
-pub mod Holding
 pub mod Planning
 pub mod Unique

@@ -1,15 +1,12 @@
--- The working room: five numbers a cell, woven. Cell x's stand from x * 5 on: its distance, its parent, its phase (0 no way to it
--- yet, 1 in the frontier, 2 opened, 3 both), the x-th cell of the route, and the x-th of the cells noted, those that have a way.
-use Prim.Native.Nat.{ℕ, zero, suc, _+_, _*_, _/_, _%_, _≤_, _<_}
-use mathlib.Core.{Path._≡_, Bool.Bool, Bool.true, Bool.false, Bool._||_, List.List, List.[], List._∷_}
+-- The search that the working room shows, and what is noted in it.
+use Prim.Native.Nat.{ℕ, zero, suc, _*_, _%_, _≤_, _<_}
+use mathlib.Core.{Path._≡_, Bool.Bool, Bool.true, Bool.false, Bool._||_, List.List}
 use lib.{Dec.eqb, Dec.ltb, Dec.leb, ListN.length}
-use Rattle.floor.specs.{declared.Floor.Floor, Floor.sizesOk, Floor.cells, Floor.tabulate, Floor.valueAt}
+use Rattle.floor.specs.{declared.Floor.Floor, Floor.sizesOk, Floor.cells}
 use Rattle.floor.specs.declared.Distance.{Distance, the-variants.Reached, the-variants.Unreached}
 use Rattle.rules.specs.Search.{Search}
-
--- the numbers of one cell
-abbrev pub columns : ℕ
-columns = 5
+pub use Rattle.room.specs.Layout.{columns}
+unfoldable pub use Rattle.room.specs.Layout.{column, routeFrom, held, holding}
 
 -- what is asked of a list of the floor's cells, known map or estimates, and of the room
 pub record Room (f : Floor) (board room : List ℕ) : Type 0 where
@@ -22,10 +19,6 @@ pub record Room (f : Floor) (board room : List ℕ) : Type 0 where
 unfoldable pub distanceOf : ℕ → ℕ → Distance
 distanceOf zero g = Unreached
 distanceOf (suc p) g = Reached g
-
--- the j-th number of cell x
-unfoldable pub column : ℕ → List ℕ → ℕ → ℕ
-column j room x = valueAt room (x * columns + j)
 
 -- the search that the room shows
 unfoldable pub shown : List ℕ → Search
@@ -62,15 +55,3 @@ pub record Noted (n : ℕ) (room : List ℕ) (m moves : ℕ) : Type 0 where
 pub record RouteOnly (moves : ℕ) (room room′ : List ℕ) : Type 0 where
   pub stays : (j x : ℕ) → j < columns → (j ≡ 3 → ⊥) → column j room′ x ≡ column j room x
   pub past : (x : ℕ) → moves ≤ x → column 3 room′ x ≡ column 3 room x
-
--- k cells of the route, from the i-th on
-unfoldable pub routeFrom : List ℕ → ℕ → ℕ → List ℕ
-routeFrom room i zero = []
-routeFrom room i (suc k) = column 3 room i ∷ routeFrom room (i + 1) k
-
--- a room of n numbers that holds a route and is zero else
-unfoldable pub held : List ℕ → ℕ → ℕ
-held ahead i = elim (eqb (i % columns) 3) [ true ↦ valueAt ahead (i / columns) | false ↦ 0 ]
-
-unfoldable pub holding : ℕ → List ℕ → List ℕ
-holding n ahead = tabulate n (held ahead)

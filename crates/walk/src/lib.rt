@@ -13,7 +13,7 @@ ghost use lib.ListN.{length};
 ghost use Rattle.floor.specs.Floor.{cells};
 ghost use Rattle.rules.specs.Request.{walkRefusal};
 ghost use Rattle.refusals.specs.Given.{given};
-ghost use Rattle.search.specs.Room.{columns, holding};
+ghost use Rattle.room.specs.Layout.{columns, holding};
 ghost use Rattle.walk.specs.declared.WalkAnswer.the-variants.{Done};
 ghost use Rattle.walk.specs.Counting.{begun, counted, ended};
 ghost use Rattle.walk.specs.Promise.{WalkPromise};
@@ -178,8 +178,8 @@ pub fn walk(
     if refused != 0 {
         return WalkAnswer::Refused(refused, cart);
     }
-    let n = floor.cells() * search::COLUMNS;
-    let mut room = search::new_room();
+    let n = floor.cells() * room::COLUMNS;
+    let mut room = room::new_room();
     let done = run_walk(
         floor,
         plan,

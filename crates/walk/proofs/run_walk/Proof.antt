@@ -9,7 +9,7 @@ use lib.ListN.{length}
 use borrow.Author.Needs.{needs}
 use borrow.Rule.Slice.PartMut.{putMid}
 use Rattle.floor.specs.declared.Ending.the-variants.{CutOff}
-use Rattle.search.specs.Room.{holding}
+use Rattle.room.specs.Layout.{holding}
 use Rattle.walk.specs.declared.Tally.{Tally}
 use Rattle.walk.specs.Counting.{counted}
 use Rattle.walk.proofs.Going.{Going, Over, Turned, cart-few, known-kept, est-kept, trail-kept, trail-holds, begins, arrived, spent}

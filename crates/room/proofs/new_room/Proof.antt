@@ -1,7 +1,7 @@
 -- A room of zeros is empty.
-use Rattle.search.proofs.Holding.{made-empty}
-use Rattle.search.proofs.new_room.Statement.{statement}
-use Rattle.search.proofs.new_room.Tie as tie
+use Rattle.room.proofs.Holding.{made-empty}
+use Rattle.room.proofs.new_room.Statement.{statement}
+use Rattle.room.proofs.new_room.Tie as tie
 
 returns : tie.Need-returns
 returns c = made-empty 20480
