@@ -1,0 +1,11 @@
+pub mod Reading
+pub mod Least
+pub mod Counting
+pub mod Sorting
+pub mod Queueing
+pub mod Splitting
+pub mod Showing
+pub mod Listing
+pub mod Joining
+pub mod Dividing
+pub mod Taking
