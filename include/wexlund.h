@@ -10,7 +10,7 @@
    and walk leaves them sound: what a cart learned serves its next trip to the same goal.
 
    What every entry does. It takes any numbers and any bytes, and answers 0 or the number of a refusal (the table below). It always
-   returns, keeps nothing between two calls, and reads and writes no memory but what it is lent and less than 64 KiB of its stack.
+   returns, keeps nothing between two calls, and reads and writes no memory but what it is lent and less than 40 KiB of its stack.
 
    What is lent. A slice is a pointer and a count of elements (not of bytes). The pointer is not null, even where the count is 0,
    and is aligned as its type asks. No two slices of one call overlap, nor does one overlap the result array or the cart record.

@@ -3,6 +3,7 @@ pub mod Least
 pub mod Counting
 pub mod Sorting
 pub mod Queueing
+pub mod Growing
 pub mod Splitting
 pub mod Showing
 pub mod Listing

@@ -11,13 +11,12 @@ use lib.ListN.{length, set}
 use lib.Seq.{lt-length-set}
 use borrow.Author.Tests.{eqb-true, eqb-false, eq-eqb, ne-eqb, lt-ltb}
 use Rattle.floor.specs.declared.Distance.the-variants.{Reached}
-use Rattle.floor.specs.Floor.{valueAt}
 use Rattle.floor.proofs.Tools.{both, clash, or-cases, or-1, or-2, and-2, not-t}
 use Rattle.rules.specs.Search.{Search}
 use Rattle.queue.specs.Room.{columns, distanceOf, parentOf, column, among, openedAt, shown, leaving, joined}
 use Rattle.queue.specs.Queue.{Sum, Front, Stands}
 use Rattle.queue.proofs.Reading.{stored, beyond, apart}
-use Rattle.queue.proofs.Queueing.{Joined}
+use Rattle.queue.proofs.Growing.{Joined}
 
 -- ---- whether a cell is listed
 
@@ -29,8 +28,8 @@ among-same l k (suc m) x h = rw (h m (omega arith), among-same l k m x (λ i lt.
 pub among-stands : (l : ℕ → ℕ) (m x : ℕ) → among l m x ≡ true → Stands l m x
 unfolding among
 among-stands l zero x e = clash e refl
-among-stands l (suc m) x e = elim (or-cases (eqb (l m) x) (among l m x) e) [
-  | inl q ↦ record { k = m; below = omega arith; is = eqb-true (l m) x q }
+among-stands l (suc m) x e = elim (or-cases (eqb x (l m)) (among l m x) e) [
+  | inl q ↦ record { k = m; below = omega arith; is = sym (eqb-true x (l m) q) }
   | inr q ↦ let s = among-stands l m x q in record { k = s .k; below = omega (arith, s .below); is = s .is }
 ]
 
@@ -38,8 +37,8 @@ pub stands-among : (l : ℕ → ℕ) (m x k : ℕ) → k < m → l k ≡ x → a
 unfolding among
 stands-among l zero x k lt e = absurd (omega arith)
 stands-among l (suc m) x k lt e = elim (both (eqb k m)) [
-  | inl q ↦ or-1 (eqb (l m) x) (among l m x) (eq-eqb (l m) x (ap l (sym (eqb-true k m q)) ∙ e))
-  | inr q ↦ or-2 (eqb (l m) x) (among l m x) (stands-among l m x k (omega (arith, eqb-false k m q)) e)
+  | inl q ↦ or-1 (eqb x (l m)) (among l m x) (eq-eqb x (l m) (sym e ∙ ap l (eqb-true k m q)))
+  | inr q ↦ or-2 (eqb x (l m)) (among l m x) (stands-among l m x k (omega (arith, eqb-false k m q)) e)
 ]
 
 -- ---- what a cell's way says
@@ -213,12 +212,6 @@ module _ (n : ℕ) (room : List ℕ) (m c g y : ℕ) (lt : y * columns + 3 < len
 
 -- ---- a cell is listed as opened
 
-turn : (a b : ℕ) → eqb a b ≡ eqb b a
-turn a b = elim (both (eqb a b)) [
-  | inl e ↦ e ∙ sym (eq-eqb b a (sym (eqb-true a b e)))
-  | inr e ↦ e ∙ sym (ne-eqb b a (λ z. eqb-false a b e (sym z)))
-]
-
 module _ (n : ℕ) (room : List ℕ) (m c : ℕ) (fits : m < n) (long : (n - 1 - m) * columns + 2 < length room) where
   abbrev listed : List ℕ
   listed = set room ((n - 1 - m) * columns + 2) c
@@ -233,7 +226,7 @@ module _ (n : ℕ) (room : List ℕ) (m c : ℕ) (fits : m < n) (long : (n - 1 -
 
   pub opened-more : (x : ℕ) → among (openedAt n listed) (m + 1) x ≡ (eqb x c || among (openedAt n room) m x)
   unfolding among
-  opened-more x = rw (add-one m) (ap₂ (λ (a b : Bool). a || b) (ap (λ (v : ℕ). eqb v x) opened-last ∙ turn c x) (among-same (openedAt n listed) (openedAt n room) m x opened-before))
+  opened-more x = rw (add-one m) (ap₂ (λ (a b : Bool). a || b) (ap (eqb x) opened-last) (among-same (openedAt n listed) (openedAt n room) m x opened-before))
 
 -- ---- the top of the stack is listed as opened, and leaves
 

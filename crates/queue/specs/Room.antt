@@ -27,7 +27,7 @@ parentOf (suc v) p = p
 -- whether x is among the first m of a list's cells
 unfoldable pub among : (ℕ → ℕ) → ℕ → ℕ → Bool
 among list zero x = false
-among list (suc m) x = eqb (list m) x || among list m x
+among list (suc m) x = eqb x (list m) || among list m x
 
 -- the i-th cell opened: the first stands at the last place, the others before it
 unfoldable pub openedAt : ℕ → List ℕ → ℕ → ℕ
