@@ -1,10 +1,12 @@
 // The floor, the types that every layer shares, and the two entries that need nothing but the floor: preparing estimates and
 // the required figure.
+#![tactic(auto)]
+
 ghost use Rattle.std.specs.Prelude.{◌≡◌, true, ◌<◌, length};
 ghost use Rattle.floor.specs.Floor.{cells, gap, manhattan, neighbour, sizes_ok, PreparePromise, prepared, RequiredPromise};
 
 // One of the four ways to leave a cell.
-#[derive(Drop)]
+#[derive(Clone, Copy)]
 pub enum Heading {
     North,
     West,
@@ -13,28 +15,28 @@ pub enum Heading {
 }
 
 // Where a heading leads: to a cell, or off the floor.
-#[derive(Drop)]
+#[derive(Clone, Copy)]
 pub enum Step {
     To(usize),
     Edge,
 }
 
 // A cell's distance from the cart in a search: known, or no way to it yet.
-#[derive(Drop)]
+#[derive(Clone, Copy)]
 pub enum Distance {
     Reached(u16),
     Unreached,
 }
 
 // The cell that a search takes next, with its distance from the cart; or none.
-#[derive(Drop)]
+#[derive(Clone, Copy)]
 pub enum Choice {
     Nothing,
     Take(usize, u16),
 }
 
 // How a leg or a walk ended: `Spent` is a walk's alone, `UnderWay` a leg's.
-#[derive(Drop)]
+#[derive(Clone, Copy)]
 pub enum Ending {
     Arrived,
     CutOff,
@@ -44,14 +46,14 @@ pub enum Ending {
 
 // The two allowances of a leg are types of their own, so that neither can be handed over in the other's place: how many cells
 // it may open, and how many moves it may make.
-#[derive(Drop)]
+#[derive(Clone, Copy)]
 pub struct Lookahead(pub usize);
 
-#[derive(Drop)]
+#[derive(Clone, Copy)]
 pub struct MoveLimit(pub usize);
 
 // Any two numbers; only sizes that `sizes_hold` accepts are a floor's.
-#[derive(Drop)]
+#[derive(Clone, Copy)]
 pub struct Floor {
     pub width: usize,
     pub height: usize,
@@ -183,7 +185,7 @@ pub fn prepare(floor: Floor, goal: usize, est: &mut [u16]) -> u8
 }
 
 // What the entry `required` answers.
-#[derive(Drop)]
+#[derive(Clone, Copy)]
 pub enum Figure {
     Moves(u16),
     Refused(u8),

@@ -1,4 +1,5 @@
 // One leg for a simulator's own cart: the record that it lends is moved on, and its running totals are kept.
+#![tactic(auto)]
 ghost use Rattle.std.specs.Prelude.{◌≡◌};
 ghost use Rattle.refusals.specs.Given.{given};
 ghost use Rattle.host.specs.Host.{capped, searched, booked, HostPromise};
@@ -10,7 +11,7 @@ use leg::{LegAnswer, leg};
 const MOST: u32 = 4294967295;
 
 // The record that the host lends: the cart's cell, and running totals of moves, of cells opened and of legs that searched.
-#[derive(Drop)]
+#[derive(Clone, Copy)]
 pub struct Cart {
     pub cell: u32,
     pub moves: u32,
@@ -19,7 +20,7 @@ pub struct Cart {
 }
 
 // A leg's answer with the record after it.
-#[derive(Drop)]
+#[derive(Clone, Copy)]
 pub struct Hosted {
     pub cart: Cart,
     pub answer: LegAnswer,

@@ -1,4 +1,5 @@
 // The trip printer, turn by turn: a turn says one line and answers what comes after it, until the trip is over.
+#![tactic(auto)]
 ghost use Rattle.std.specs.Prelude.{ℕ, ◌≡◌, List};
 ghost use Rattle.floor.specs.Floor.{cells, tabulate};
 ghost use Rattle.printer.specs.declared.Turn.TheVariants.{Onward};
@@ -15,7 +16,7 @@ use walk::leg_limit;
 
 // What comes next: a leg, or the end where the cart has arrived or its allowance is used up; the end, with the number of cells whose
 // estimates come after it; a last line; nothing.
-#[derive(Drop)]
+#[derive(Clone, Copy)]
 pub enum Turn {
     Onward(Errand, Cart),
     End(Ending, Cart, usize),
@@ -24,7 +25,7 @@ pub enum Turn {
 }
 
 // The line that a turn says, and what comes after it.
-#[derive(Drop)]
+#[derive(Clone, Copy)]
 pub struct Next {
     pub line: Line,
     pub turn: Turn,

@@ -1,5 +1,6 @@
 // Tries each rule of trip records: with a record or a file that breaks this rule and no other, and with one on the lawful side of it.
 // What it has to print stands in the file stdout; it follows from document 01 and was written down from there.
+#![tactic(auto)]
 ghost use Rattle.std.specs.Prelude.{◌≡◌, ◌+◌, ◌≤◌, ◌<◌, length};
 
 use libc::STDOUT_FILENO;

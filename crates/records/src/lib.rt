@@ -1,4 +1,5 @@
 // Trip records: 24 bytes each, one after another, low byte first. Entries: write one, count a file's, read one by its number.
+#![tactic(auto)]
 ghost use Rattle.std.specs.Prelude.{◌≡◌, ◌+◌, ◌*◌, ◌/◌, ◌%◌, ◌≤◌, length};
 ghost use Rattle.rules.specs.Record.{got, layout, trip_at, values_ok, record_ok, next_serial, follows, count_refusal};
 ghost use Rattle.records.specs.Promise.{WritePromise, CountPromise, ReadPromise};
@@ -16,21 +17,21 @@ const MOST_MOVES: u32 = 16769025;
 const MOST_REQUIRED: u16 = 126;
 
 // What the writer answers: that the record is written, with the serial of the next one; or a refusal.
-#[derive(Drop)]
+#[derive(Clone, Copy)]
 pub enum WriteAnswer {
     Written(u16),
     Refused(u8),
 }
 
 // What counting answers: the number of records, or a refusal.
-#[derive(Drop)]
+#[derive(Clone, Copy)]
 pub enum CountAnswer {
     Records(usize),
     Refused(u8),
 }
 
 // What reading by number answers: the values of the record, or a refusal.
-#[derive(Drop)]
+#[derive(Clone, Copy)]
 pub enum ReadAnswer {
     Record(Trip),
     Refused(u8),

@@ -1,6 +1,5 @@
 -- Document 01, "The trip printer": what is printed, as a function of the bytes of standard input.
 use Rattle.std.specs.Prelude.{ℕ, zero, suc, ◌+◌, ◌-◌, ◌*◌, ◌/◌, ◌%◌}
-use Prim.Native.String
 use Prim.Native.String.{String}
 use Prim.Native.Char.{code}
 use mathlib.Core.{Bool.Bool, Bool.true, Bool.false, Bool.not, Bool.◌&&◌, Bool.◌||◌, List.List, List.[], List.◌∷◌, List.◌++◌}

@@ -1,8 +1,9 @@
 // No function. specs/ holds the definitions of document 01 and the table of cases that tests them; the type below is what its trip
 // records and their code share.
+#![tactic(auto)]
 
 // The values of one trip record, in the layout's order.
-#[derive(Drop)]
+#[derive(Clone, Copy)]
 pub struct Trip {
     pub serial: u16,
     pub cart: u16,

@@ -1,4 +1,5 @@
 // The trip printer: reads a trip's text from standard input, and prints its legs, its end and its estimates, line by line.
+#![tactic(auto)]
 use libc::{STDERR_FILENO, STDIN_FILENO, STDOUT_FILENO};
 use printer::Turn;
 

@@ -1,4 +1,5 @@
 // The lines that the trip printer prints, each put into a lent buffer.
+#![tactic(auto)]
 ghost use Rattle.std.specs.Prelude.{◌+◌, ◌*◌, ◌≤◌, ◌++◌, length, take};
 ghost use Rattle.io.specs.Counts.{IsPrefixLen};
 ghost use Rattle.rules.specs.Printer.{ascii, decimal, leg_line, end_line, spaced};
@@ -9,7 +10,7 @@ use floor::Ending;
 
 // A line: of a text fault; of a refusal by its number; of a leg by its number, cells opened, moves and the cell after it; of the end
 // by the ending and the totals of moves, legs and cells opened; of so many estimates; or no line.
-#[derive(Drop)]
+#[derive(Clone, Copy)]
 pub enum Line {
     BadInput,
     Refused(u8),

@@ -1,5 +1,6 @@
 // The text that the trip printer is given: its first line, `width height start goal lookahead limit allowance`, and the rows of the
 // floor's plan.
+#![tactic(auto)]
 ghost use Rattle.std.specs.Prelude.{◌≡◌, true, ◌≤◌, ◌<◌, length};
 ghost use Rattle.floor.specs.Floor.{sizes_ok, cells, tabulate, byte};
 ghost use Rattle.rules.specs.Printer.{field, row_ok, asked};
@@ -12,7 +13,7 @@ use floor::{Floor, Lookahead, MoveLimit};
 use refusals::{cells_hold, settings_hold};
 
 // What the first line asks for.
-#[derive(Drop)]
+#[derive(Clone, Copy)]
 pub struct Errand {
     pub floor: Floor,
     pub start: u32,
@@ -23,7 +24,7 @@ pub struct Errand {
 }
 
 // What is heard from a text: a text fault, a refusal by its number, or an errand.
-#[derive(Drop)]
+#[derive(Clone, Copy)]
 pub enum Heard {
     BadInput,
     Refused(u8),
@@ -31,7 +32,7 @@ pub enum Heard {
 }
 
 // What a word of the first line says.
-#[derive(Drop)]
+#[derive(Clone, Copy)]
 enum Word {
     Number(u32),
     Fault,

@@ -3,12 +3,11 @@ use Prim.Native.Nat.{ℕ, suc, ◌≤◌, ◌<◌}
 use mathlib.Core.Path.{◌≡◌, ◌∙◌, sym}
 use mathlib.Core.Bool.{true, false}
 use native.Mathlib.Omega.{arith}
-use borrow.Author.Rules.{rules}
-use borrow.Author.Tests.{lt-ltb, le-ltb, not-true, not-false}
+use borrow.Author.Tests.{lt-ltb, le-ltb}
 use Rattle.floor.specs.declared.Figure.TheVariants.{Moves, Refused}
 use Rattle.floor.specs.Floor.{Floor, sizes_ok, cells, manhattan, refusal, if_accepted, RequiredPromise, required_refusal}
-use Rattle.floor.proofs.required.Statement.{statement}
-use Rattle.floor.proofs.required.Tie as tie
+use Rattle.floor.proofs.required.Goals.{Else-not-sizes_hold}
+use Rattle.floor.proofs.required.Goals as goal
 
 -- no answer here is a refusal without a number
 some_number : (n : ℕ) → Refused (suc n) ≡ Refused 0 → ⊥
@@ -34,25 +33,26 @@ module _ (f : Floor) (start goal : ℕ) where
   unfolding required_refusal refusal if_accepted
   accepted s a b = record { answers = rw (s, lt-ltb _ _ a, lt-ltb _ _ b); figure = rw (s, lt-ltb _ _ a, lt-ltb _ _ b); numbered = no-refusal (manhattan f start goal) }
 
-returns : tie.Need-returns
-returns c = no-floor _ _ _ (sym c.before.sizes-hold.ensures ∙ not-true _ c.if1.true)
+pub returns-then-not-sizes_hold : goal.returns-then-not-sizes_hold
+returns-then-not-sizes_hold c = no-floor _ _ _ (sym c.sizes_hold.ensures ∙ c.if-not-sizes_hold.true)
 
-sized : (c : tie.Else1) → sizes_ok c.before.before.args.floor ≡ true
-sized c = sym c.before.sizes-hold.ensures ∙ not-false _ c.if1.false
+sized : (c : Else-not-sizes_hold) → sizes_ok c.args.floor ≡ true
+sized c = sym c.sizes_hold.ensures ∙ c.if-not-sizes_hold.false
 
-returns-2 : tie.Need-returns-2
-returns-2 c = no_start _ _ _ (sized c.before.before) (omega arith)
+pub returns-then-n-start : goal.returns-then-n-start
+returns-then-n-start c = no_start _ _ _ (sized (goal.at.returns-then-n-start c).Else-not-sizes_hold) (omega arith)
 
-returns-3 : tie.Need-returns-3
-returns-3 c = no-goal _ _ _ (sized c.before.before.before) (omega arith) (omega arith)
+pub returns-then-n-goal : goal.returns-then-n-goal
+returns-then-n-goal c = no-goal _ _ _ (sized (goal.at.returns-then-n-goal c).Else-not-sizes_hold) (omega arith) (omega arith)
 
-manhattan-requires : tie.Need-manhattan-requires
-manhattan-requires c κs = (sized c.before.before.before, (omega arith, omega arith))
+pub manhattan-requires : goal.manhattan-requires
+manhattan-requires c = record {
+  self_value = sized (goal.at.manhattan-requires c).Else-not-sizes_hold;
+  a_bound = (omega arith, omega arith);
+}
 
-returns-4 : tie.Need-returns-4
-returns-4 c = rw c.manhattan.ensures (accepted _ _ _ (sized c.before.before.before.before) (omega arith) (omega arith))
+pub returns : goal.returns
+returns c = rw c.manhattan.ensures (accepted _ _ _ (sized (goal.at.returns c).Else-not-sizes_hold) (omega arith) (omega arith))
 
-pub required-spec : {M : Type 1} → statement M
-required-spec =
-    tie.close
-    (tie.spec (λ c κs. search rules) returns (λ c κs. sized c) returns-2 returns-3 manhattan-requires returns-4)
+pub cells-n-requires : goal.cells-n-requires
+cells-n-requires c = sized (goal.at.cells-n-requires c).Else-not-sizes_hold

@@ -5,11 +5,10 @@ use mathlib.Core.Bool.{true, false}
 use mathlib.Core.List.{List}
 use native.Mathlib.Omega.{arith}
 use lib.ListN.{length}
-use borrow.Author.Rules.{rules}
-use borrow.Author.Tests.{lt-ltb, le-ltb, eq-eqb, ne_eqb, not-true, not-false}
+use borrow.Author.Tests.{lt-ltb, le-ltb, eq-eqb, ne_eqb}
 use Rattle.floor.specs.Floor.{Floor, sizes_ok, cells, refusal, if_accepted, PreparePromise, prepare_refusal, prepared}
-use Rattle.floor.proofs.prepare.Statement.{statement}
-use Rattle.floor.proofs.prepare.Tie as tie
+use Rattle.floor.proofs.prepare.Goals.{Else-not-sizes_hold}
+use Rattle.floor.proofs.prepare.Goals as goal
 
 module _ (f : Floor) (goal : ℕ) (est : List ℕ) where
   no-floor : sizes_ok f ≡ false → PreparePromise f goal est 1 est
@@ -28,27 +27,26 @@ module _ (f : Floor) (goal : ℕ) (est : List ℕ) where
   unfolding prepare_refusal refusal if_accepted
   accepted s l g = record { answers = rw (s, eq-eqb _ _ l, lt-ltb _ _ g); writes = refl }
 
-returns : tie.Need-returns
-returns c = no-floor _ _ _ (sym c.before.sizes-hold.ensures ∙ not-true _ c.if1.true)
+pub returns-then-not-sizes_hold : goal.returns-then-not-sizes_hold
+returns-then-not-sizes_hold c = no-floor _ _ _ (sym c.sizes_hold.ensures ∙ c.if-not-sizes_hold.true)
 
-sized : (c : tie.Else1) → sizes_ok c.before.before.before.args.floor ≡ true
-sized c = sym c.before.sizes-hold.ensures ∙ not-false _ c.if1.false
+sized : (c : Else-not-sizes_hold) → sizes_ok c.args.floor ≡ true
+sized c = sym c.sizes_hold.ensures ∙ c.if-not-sizes_hold.false
 
-returns-2 : tie.Need-returns-2
-returns-2 c = no_room _ _ _ (sized c.before.before) (omega arith)
+pub returns-then-est-n : goal.returns-then-est-n
+returns-then-est-n c = no_room _ _ _ (sized (goal.at.returns-then-est-n c).Else-not-sizes_hold) (omega arith)
 
-returns-3 : tie.Need-returns-3
-returns-3 c = no-goal _ _ _ (sized c.before.before.before) (omega arith) (omega arith)
+pub returns-then-n-goal : goal.returns-then-n-goal
+returns-then-n-goal c = no-goal _ _ _ (sized (goal.at.returns-then-n-goal c).Else-not-sizes_hold) (omega arith) (omega arith)
 
-fill-requires : tie.Need-fill-requires
-fill-requires c κs = (sized c.before.before.before.before, (omega arith, omega arith))
+pub fill-requires : goal.fill-requires
+fill-requires c = record {
+  floor_value = sized (goal.at.fill-requires c).Else-not-sizes_hold;
+  goal_bound = (omega arith, omega arith);
+}
 
-returns-4 : tie.Need-returns-4
-returns-4 c =
-    let d = c.before.before in
-    rw d.fill.ensures (accepted _ _ _ (sized d.before.before.before.before.before) (omega arith) (omega arith))
+pub returns : goal.returns
+returns c = rw c.fill.ensures (accepted _ _ _ (sized (goal.at.returns c).Else-not-sizes_hold) (omega arith) (omega arith))
 
-pub prepare-spec : {M : Type 1} → statement M
-prepare-spec =
-    tie.close
-    (tie.spec (λ c κs. search rules) returns (λ c κs. sized c) returns-2 returns-3 fill-requires (λ c. search rules) returns-4)
+pub cells-n-requires : goal.cells-n-requires
+cells-n-requires c = sized (goal.at.cells-n-requires c).Else-not-sizes_hold
