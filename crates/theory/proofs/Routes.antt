@@ -15,11 +15,11 @@ module _ {f : Floor} {plan : ℕ → Bool} where
   route_open (here o) = o
   route_open (step o b r) = o
 
-  pub joined : {a b c n m : ℕ} → Route f plan b a n → Route f plan c b m → Route f plan c a (n + m)
+  pub joined : {b a c n m : ℕ} → Route f plan b a n → Route f plan c b m → Route f plan c a (n + m)
   joined (here o) r = rw zero-add r
   joined (step o b q) r = rw suc-add (step o b (joined q r))
 
-  pub turned : {a b n : ℕ} → Route f plan b a n → Route f plan a b n
+  pub turned : {b a n : ℕ} → Route f plan b a n → Route f plan a b n
   turned (here o) = here o
   turned {a = a} (step {b = c} {n = k} o b q) = rw (← add-one k) (joined (turned q) (step (route_open q) (beside-sym f a c b) (here o)))
 
