@@ -1,5 +1,6 @@
 // The refusals 1 to 9 of a leg and of a walk.
 #![tactic(auto)]
+
 ghost use Rattle.std.specs.Prelude.{◌≡◌, true, not, ◌&&◌, ◌||◌, [], ◌∷◌, ◌+◌, ◌-◌, ◌*◌, ◌≤◌, ◌<◌, length, ltb, leb, eqb};
 ghost use Rattle.floor.specs.Floor.{sizes_ok, cells, value_at, blocked, refusal};
 ghost use Rattle.rules.specs.Sound.{every, within, sound};

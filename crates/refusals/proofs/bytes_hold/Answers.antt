@@ -1,0 +1,20 @@
+use Prim.Native.Nat.{◌-◌, ◌≤◌}
+use mathlib.Core.Path.{◌≡◌, refl}
+use mathlib.Core.Bool.{◌&&◌}
+use native.Mathlib.Omega.{arith}
+use lib.Dec.{leb}
+use borrow.Author.Rules.{rules}
+use Rattle.floor.specs.Floor.{value_at}
+use Rattle.rules.specs.Sound.{every}
+use Rattle.refusals.proofs.Flags.{every_none, every_more, every_all}
+use Rattle.refusals.proofs.bytes_hold.Goals as goal
+
+pub loop-x-init : goal.loop-x-init
+loop-x-init c = (omega arith, every_none _)
+
+pub loop-x-preserved : goal.loop-x-preserved
+unfolding value_at
+loop-x-preserved c = (omega arith, every_more _ _ _ _ refl c.loop-x.invariant.1)
+
+pub returns : goal.returns
+returns c = every_all _ _ _ _ (omega arith) (omega arith) c.loop-x.invariant.1
