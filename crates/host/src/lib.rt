@@ -1,5 +1,6 @@
 // One leg for a simulator's own cart: the record that it lends is moved on, and its running totals are kept.
 #![tactic(auto)]
+
 ghost use Rattle.std.specs.Prelude.{◌≡◌};
 ghost use Rattle.refusals.specs.Given.{given};
 ghost use Rattle.host.specs.Host.{capped, searched, booked, HostPromise};
@@ -106,9 +107,9 @@ pub fn host_leg(
     limit: MoveLimit,
     trail: &mut [u16],
 ) -> LegAnswer
-    ensures { HostPromise cart.entry.now
-        (given floor plan.now known.old est.old cart.entry.now.cell goal look limit trail.old)
-        (record { cart = cart.exit.now; answer = result }) known.new est.new trail.new }
+    ensures { HostPromise cart.old
+        (given floor plan.now known.old est.old cart.old.cell goal look limit trail.old)
+        (record { cart = cart.new; answer = result }) known.new est.new trail.new }
 {
     let h = leg_for(*cart, floor, plan, known, est, goal, look, limit, trail);
     *cart = h.cart;
