@@ -10,7 +10,7 @@ use Rattle.room.specs.Layout.{columns}
 use Rattle.room.proofs.Holding.{room_fits, room_ready}
 use Rattle.walk.proofs.Going.{tested}
 use Rattle.walk.proofs.Keeping.{refuses, passes}
-use Rattle.walk.proofs.walk.Goals.{After-cells-n, Else-refused-ne0}
+use Rattle.walk.proofs.walk.Goals.{Else-refused-ne0}
 use Rattle.walk.proofs.walk.Goals as goal
 
 -- what `check` passed has sizes that hold
@@ -18,18 +18,14 @@ sized : (c : Else-refused-ne0) → sizes_ok c.args.floor ≡ true
 unfolding given
 sized c = (tested _ _ _ _ _ _ _ _ _ _ (passes _ _ _ _ _ _ _ _ _ _ _ c.check-refused.ensures c.if-refused-ne0.false)).sized
 
--- the largest floor's room is enough
-fits : (c : After-cells-n) → c.cells-n.result * columns ≤ 4096 * columns
-fits c = room_fits _ (sized c.before) _ c.cells-n.ensures
-
 pub returns-then-refused-ne0 : goal.returns-then-refused-ne0
 returns-then-refused-ne0 c = refuses _ _ _ _ _ _ _ _ _ _ _ c.check-refused.ensures c.if-refused-ne0.true
 
 pub overflow_mul-n : goal.overflow_mul-n
-overflow_mul-n c = omega (arith, fits (goal.at.overflow_mul-n c).After-cells-n)
+overflow_mul-n c = omega (arith, room_fits _ (sized (goal.at.overflow_mul-n c).Else-refused-ne0) _ c.cells-n.ensures)
 
 pub slice_bounds-room-end : goal.slice_bounds-room-end
-slice_bounds-room-end c = omega (arith, fits (goal.at.slice_bounds-room-end c).After-cells-n)
+slice_bounds-room-end c = omega (arith, room_fits _ (sized (goal.at.slice_bounds-room-end c).Else-refused-ne0) _ c.cells-n.ensures)
 
 pub slice_bounds-run_walk-end : goal.slice_bounds-run_walk-end
 slice_bounds-run_walk-end c = omega (arith, c.cells-n.ensures, (room_ready _ (sized (goal.at.slice_bounds-run_walk-end c).Else-refused-ne0) _ c.cells-n.ensures _ c.new_room-room.ensures).0)
