@@ -10,7 +10,7 @@ use lib.Dec.{ltb, eqb}
 use lib.ListN.{length, get_or, take, length-drop}
 use lib.Seq.{take_all, take-take, take-length, length-take-le}
 use borrow.Author.Tests.{ltb-true, ltb-false, eqb-true}
-use Rattle.bytes.specs.Bytes.{slice, index_after, index_of}
+use Rattle.trip_text.specs.Scan.{slice, index_after, index_of}
 use Rattle.floor.specs.Floor.{sizes_ok}
 use Rattle.floor.proofs.Tools.{both, and_1, and_2, refute}
 use Rattle.floor.proofs.Grid.{sides}
