@@ -1,9 +1,7 @@
-use Prim.Native.Nat.{◌-◌}
-use mathlib.Core.Path.{◌≡◌, ◌∙◌, refl}
+use mathlib.Core.Path.{◌∙◌, refl}
 use native.Mathlib.Omega.{arith}
-use lib.ListN.{length, length-set}
-use borrow.Author.Rules.{rules}
-use Rattle.trip_text.proofs.Drawing.{Drawn, none_drawn, one_drawn, all_drawn}
+use lib.ListN.{length-set}
+use Rattle.trip_text.proofs.Drawing.{none_drawn, one_drawn, all_drawn}
 use Rattle.trip_text.proofs.draw.Goals as goal
 
 pub loop-x-init : goal.loop-x-init
@@ -11,9 +9,9 @@ loop-x-init c = (none_drawn _ _ _ _ c.requires.plan_len, refl)
 
 pub cell_byte-requires : goal.cell_byte-requires
 cell_byte-requires c = record {
-      height_value = c.requires.height_value;
-      floor_value = (c.requires.floor_value, omega (arith, c.loop-x.invariant.1, c.loop-x.invariant.0.plan_long, c.loop-x-test.true));
-    }
+  height_value = c.requires.height_value;
+  floor_value = (c.requires.floor_value, omega (arith, c.loop-x.invariant.1, c.loop-x.invariant.0.plan_long, c.loop-x-test.true));
+}
 
 pub loop-x-preserved : goal.loop-x-preserved
 loop-x-preserved c = let i = c.loop-x.invariant in (one_drawn _ _ _ _ _ i.0 _ (omega (arith, i.1, c.loop-x-test.true)) c.cell_byte.ensures, length-set c.loop-x.plan _ _ ∙ i.1)

@@ -1,10 +1,8 @@
 -- The cells so far are drawn. The measure is the cells still to draw.
 use Prim.Native.Nat.{◌-◌}
-use mathlib.Core.Path.{◌≡◌, ◌∙◌, refl}
-use native.Mathlib.Omega.{arith}
-use lib.ListN.{length, length-set}
-use borrow.Author.Rules.{rules}
-use Rattle.trip_text.proofs.Drawing.{Drawn, none_drawn, one_drawn, all_drawn}
+use mathlib.Core.Path.{◌≡◌}
+use lib.ListN.{length}
+use Rattle.trip_text.proofs.Drawing.{Drawn}
 use Rattle.trip_text.proofs.draw.Given as goal
 
 abbrev pub invariant-loop-x : goal.invariant-loop-x

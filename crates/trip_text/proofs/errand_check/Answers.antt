@@ -1,8 +1,7 @@
 -- The tests of an errand, in their order.
 use mathlib.Core.Path.{◌≡◌, ◌∙◌, sym}
 use mathlib.Core.Bool.{true}
-use borrow.Author.Rules.{rules}
-use borrow.Author.Tests.{not-true, not-false, ltb-true}
+use borrow.Author.Tests.{ltb-true}
 use Rattle.floor.proofs.Tools.{and_1}
 use Rattle.trip_text.proofs.Judging.{blocked_byte, open_byte, ends_on_floor, allowed, off_floor, not_allowed, on_rack, none}
 use Rattle.trip_text.proofs.errand_check.Goals.{Else-not-cells_hold, Else-not-settings_hold}
@@ -23,9 +22,9 @@ returns-then-not-settings_hold c = not_allowed _ _ (on (goal.at.returns-then-not
 
 pub cell_byte-requires : goal.cell_byte-requires
 cell_byte-requires c = record {
-      height_value = c.requires.height_value;
-      floor_value = (c.requires.floor_value, ltb-true _ _ (and_1 _ _ (on (goal.at.cell_byte-requires c).Else-not-cells_hold)));
-    }
+  height_value = c.requires.height_value;
+  floor_value = (c.requires.floor_value, ltb-true _ _ (and_1 _ _ (on (goal.at.cell_byte-requires c).Else-not-cells_hold)));
+}
 
 pub returns-then-cell_byte-eq1 : goal.returns-then-cell_byte-eq1
 returns-then-cell_byte-eq1 c = on_rack _ _ (on (goal.at.returns-then-cell_byte-eq1 c).Else-not-cells_hold) (allows (goal.at.returns-then-cell_byte-eq1 c).Else-not-settings_hold) (blocked_byte _ (sym c.cell_byte.ensures ∙ c.if-cell_byte-eq1.true))

@@ -1,4 +1,4 @@
-use Rattle.std.proofs.Common.{◌≡◌, ◌+◌, ◌<◌, ◌≤◌, length, ℕ, List, [], ◌∷◌, get_or, take, drop, ap, ◌∙◌, add-one, arith, length-take-le, drop-cons}
+use Rattle.std.proofs.Common.{◌≡◌, ◌+◌, ◌<◌, ◌≤◌, length, ℕ, List, ◌∷◌, get_or, take, ap, add-one, arith, length-take-le, drop-cons}
 use Rattle.std.proofs.lemmas.List.{get_or-take}
 use lib.ListN.{drop_of_length-le}
 use borrow.Author.Tests.{eq-eqb, ne_eqb}

@@ -1,10 +1,6 @@
 -- The words so far are numbers and stand in the fields, and the next word starts here. The measure is the words still to read.
 use Prim.Native.Nat.{◌-◌, ◌≤◌}
-use mathlib.Core.Path.{◌≡◌, ◌∙◌, refl, sym}
-use native.Mathlib.Omega.{arith}
-use borrow.Author.Rules.{rules}
-use Rattle.floor.proofs.Tools.{clash}
-use Rattle.trip_text.proofs.FirstLines.{Reading, none_read, too_few, too_many, judged_by, fields_are, bad_word, good_word}
+use Rattle.trip_text.proofs.FirstLines.{Reading}
 use Rattle.trip_text.proofs.first_line.Given as goal
 
 abbrev pub invariant-loop-i : goal.invariant-loop-i

@@ -4,7 +4,6 @@ use mathlib.Core.Path.{◌∙◌, sym, ap₂}
 use native.Mathlib.Omega.{arith}
 use lib.Seq.{length-take-le}
 use borrow.Author.Rules.{rules}
-use borrow.Author.Tests.{not-true, not-false}
 use Rattle.trip_text.specs.Parts.{judged}
 use Rattle.trip_text.proofs.Asking.{rest_whole, endless, no_line, heard_by}
 use Rattle.trip_text.proofs.hear.Goals as goal

@@ -1,8 +1,6 @@
 -- The document's order: refusal 1, the rows' text, the other refusals.
 use mathlib.Core.Path.{◌≡◌, ◌∙◌, sym}
 use mathlib.Core.Bool.{true}
-use borrow.Author.Rules.{rules}
-use borrow.Author.Tests.{not-true, not-false}
 use Rattle.floor.specs.Floor.{sizes_ok}
 use Rattle.trip_text.specs.Parts.{rest_ok}
 use Rattle.trip_text.proofs.Judging.{bad_sizes, bad_rows, refused, taken}
@@ -23,9 +21,9 @@ returns-then-not-rows_hold c = bad_rows _ _ (sized (goal.at.returns-then-not-row
 
 pub errand_check-refused-requires : goal.errand_check-refused-requires
 errand_check-refused-requires c = record {
-      height_value = rowed (goal.at.errand_check-refused-requires c).Else-not-rows_hold;
-      floor_value = sized (goal.at.errand_check-refused-requires c).Else-not-sizes_hold;
-    }
+  height_value = rowed (goal.at.errand_check-refused-requires c).Else-not-rows_hold;
+  floor_value = sized (goal.at.errand_check-refused-requires c).Else-not-sizes_hold;
+}
 
 pub returns-then-refused-ne0 : goal.returns-then-refused-ne0
 returns-then-refused-ne0 c = refused _ _ (sized (goal.at.returns-then-refused-ne0 c).Else-not-sizes_hold) (rowed (goal.at.returns-then-refused-ne0 c).Else-not-rows_hold) _ c.errand_check-refused.ensures c.if-refused-ne0.true

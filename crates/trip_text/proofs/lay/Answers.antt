@@ -37,10 +37,10 @@ slice_bounds-draw-end-5 c = front_long _ _ c.requires.text_value _ c.cells-n.ens
 
 pub draw-requires : goal.draw-requires
 draw-requires c = record {
-      height_value = drawable _ _ c.requires.text_value _ c.cells-n.ensures _ c.find-end.ensures.found;
-      floor_value = sizes _ _ c.requires.text_value;
-      plan_len = (sym (front_long _ _ c.requires.text_value _ c.cells-n.ensures _ c.requires.plan_len.0) ∙ c.cells-n.ensures, sym (front_long _ _ c.requires.text_value _ c.cells-n.ensures _ c.requires.plan_len.1) ∙ c.cells-n.ensures);
-    }
+  height_value = drawable _ _ c.requires.text_value _ c.cells-n.ensures _ c.find-end.ensures.found;
+  floor_value = sizes _ _ c.requires.text_value;
+  plan_len = (sym (front_long _ _ c.requires.text_value _ c.cells-n.ensures _ c.requires.plan_len.0) ∙ c.cells-n.ensures, sym (front_long _ _ c.requires.text_value _ c.cells-n.ensures _ c.requires.plan_len.1) ∙ c.cells-n.ensures);
+}
 
 pub slice_bounds-prepare-end : goal.slice_bounds-prepare-end
 slice_bounds-prepare-end c = omega (arith, few _ _ c.requires.text_value _ c.cells-n.ensures, c.requires.plan_len.2)
@@ -50,7 +50,7 @@ slice_bounds-prepare-end-2 c = front_long _ _ c.requires.text_value _ c.cells-n.
 
 pub returns : goal.returns
 returns c = record {
-      plan_after = plan_laid _ _ c.requires.text_value _ c.cells-n.ensures _ c.find-end.ensures.found _ _ c.draw.ensures.plan_after;
-      known_after = known_laid _ _ c.requires.text_value _ c.cells-n.ensures _ _ c.draw.ensures.known_after;
-      est_after = est_laid _ _ c.requires.text_value _ c.cells-n.ensures _ _ _ c.requires.plan_len.2 c.prepare.ensures;
-    }
+  plan_after = plan_laid _ _ c.requires.text_value _ c.cells-n.ensures _ c.find-end.ensures.found _ _ c.draw.ensures.plan_after;
+  known_after = known_laid _ _ c.requires.text_value _ c.cells-n.ensures _ _ c.draw.ensures.known_after;
+  est_after = est_laid _ _ c.requires.text_value _ c.cells-n.ensures _ _ _ c.requires.plan_len.2 c.prepare.ensures;
+}

@@ -1,7 +1,5 @@
-use Prim.Native.Nat.{◌-◌}
 use native.Mathlib.Omega.{arith}
-use borrow.Author.Rules.{rules}
-use Rattle.trip_text.proofs.Words.{Read, empty, too_long, none_read, all_read, too_low, too_high, fits, one_more}
+use Rattle.trip_text.proofs.Words.{empty, too_long, none_read, all_read, too_low, too_high, fits, one_more}
 use Rattle.trip_text.proofs.number.Goals as goal
 
 pub returns-then-word-eq0 : goal.returns-then-word-eq0

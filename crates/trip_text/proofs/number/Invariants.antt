@@ -1,8 +1,6 @@
 -- The value is that of the digits so far. The measure is the digits still to read.
 use Prim.Native.Nat.{◌-◌}
-use native.Mathlib.Omega.{arith}
-use borrow.Author.Rules.{rules}
-use Rattle.trip_text.proofs.Words.{Read, empty, too_long, none_read, all_read, too_low, too_high, fits, one_more}
+use Rattle.trip_text.proofs.Words.{Read}
 use Rattle.trip_text.proofs.number.Given as goal
 
 abbrev pub invariant-loop-i : goal.invariant-loop-i

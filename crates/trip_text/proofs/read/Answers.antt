@@ -6,9 +6,9 @@ use Rattle.trip_text.proofs.read.Goals as goal
 
 pub lay-requires : goal.lay-requires
 lay-requires c = record {
-      text_value = sym c.hear.ensures ∙ c.in-Asked.is;
-      plan_len = search rules;
-    }
+  text_value = sym c.hear.ensures ∙ c.in-Asked.is;
+  plan_len = search rules;
+}
 
 pub returns-in-BadInput : goal.returns-in-BadInput
 returns-in-BadInput c = bad_input _ _ _ _ (sym c.in-BadInput.is ∙ c.hear.ensures)

@@ -1,11 +1,5 @@
-use Prim.Native.Nat.{◌-◌, ◌≤◌}
-use mathlib.Core.Path.{◌≡◌, refl}
-use mathlib.Core.Bool.{◌||◌}
+use mathlib.Core.Path.{refl}
 use native.Mathlib.Omega.{arith}
-use lib.Dec.{eqb}
-use lib.ListN.{get_or}
-use borrow.Author.Rules.{rules}
-use Rattle.rules.specs.Sound.{every}
 use Rattle.refusals.proofs.Flags.{every_none, every_more}
 use Rattle.trip_text.proofs.Rows.{no_row, a_row}
 use Rattle.trip_text.proofs.row_holds.Goals as goal

@@ -1,14 +1,10 @@
 -- The flag is the test of each cell so far. The measure is the cells still to test.
 use Prim.Native.Nat.{◌-◌, ◌≤◌}
-use mathlib.Core.Path.{◌≡◌, refl}
+use mathlib.Core.Path.{◌≡◌}
 use mathlib.Core.Bool.{◌||◌}
-use native.Mathlib.Omega.{arith}
 use lib.Dec.{eqb}
 use lib.ListN.{get_or}
-use borrow.Author.Rules.{rules}
 use Rattle.rules.specs.Sound.{every}
-use Rattle.refusals.proofs.Flags.{every_none, every_more}
-use Rattle.trip_text.proofs.Rows.{no_row, a_row}
 use Rattle.trip_text.proofs.row_holds.Given as goal
 
 abbrev pub invariant-loop-i : goal.invariant-loop-i

@@ -1,9 +1,7 @@
-use Prim.Native.Nat.{◌-◌, ◌≤◌}
 use mathlib.Core.Path.{◌∙◌, sym}
 use native.Mathlib.Omega.{arith}
 use borrow.Author.Rules.{rules}
-use borrow.Author.Tests.{not-true, not-false}
-use Rattle.trip_text.proofs.Rows.{Rowing, none_read, no_feed, bad_row, good_row, at_end}
+use Rattle.trip_text.proofs.Rows.{none_read, no_feed, bad_row, good_row, at_end}
 use Rattle.trip_text.proofs.rows_hold.Goals as goal
 
 pub loop-init : goal.loop-init

@@ -1,10 +1,6 @@
 -- The rows so far are lawful, and the next one starts here. The measure is the rows still to read.
 use Prim.Native.Nat.{◌-◌, ◌≤◌}
-use mathlib.Core.Path.{◌∙◌, sym}
-use native.Mathlib.Omega.{arith}
-use borrow.Author.Rules.{rules}
-use borrow.Author.Tests.{not-true, not-false}
-use Rattle.trip_text.proofs.Rows.{Rowing, none_read, no_feed, bad_row, good_row, at_end}
+use Rattle.trip_text.proofs.Rows.{Rowing}
 use Rattle.trip_text.proofs.rows_hold.Given as goal
 
 abbrev pub invariant-loop : goal.invariant-loop

@@ -1,5 +1,4 @@
 -- A dash as limit stands for 1; any other word, and a dash in another place, is read as a number.
-use borrow.Author.Rules.{rules}
 use Rattle.trip_text.proofs.Words.{dash, no_dash}
 use Rattle.trip_text.proofs.word_in.Goals as goal
 
