@@ -1,7 +1,6 @@
 -- The trip's maps, each at the front of what was lent.
 use mathlib.Core.Path.{◌∙◌, sym}
 use native.Mathlib.Omega.{arith}
-use borrow.Author.Rules.{rules}
 use Rattle.trip_text.proofs.Laying.{sizes, few, front_long, known_laid, est_laid, ends, drawable, plan_laid}
 use Rattle.trip_text.proofs.lay.Goals as goal
 
@@ -11,17 +10,11 @@ cells-n-requires c = sizes _ _ c.requires.text_value
 pub find-end-requires : goal.find-end-requires
 find-end-requires c = (omega arith, omega arith)
 
-pub overflow_add-end : goal.overflow_add-end
-overflow_add-end c = search rules
-
 pub slice_bounds-draw-count : goal.slice_bounds-draw-count
 slice_bounds-draw-count c = ends _ _ c.requires.text_value _ c.cells-n.ensures _ c.find-end.ensures.found
 
 pub slice_bounds-draw-start : goal.slice_bounds-draw-start
 slice_bounds-draw-start c = ends _ _ c.requires.text_value _ c.cells-n.ensures _ c.find-end.ensures.found
-
-pub slice_bounds-draw-end : goal.slice_bounds-draw-end
-slice_bounds-draw-end c = search rules
 
 pub slice_bounds-draw-end-2 : goal.slice_bounds-draw-end-2
 slice_bounds-draw-end-2 c = omega (arith, few _ _ c.requires.text_value _ c.cells-n.ensures, c.requires.plan_len.0)

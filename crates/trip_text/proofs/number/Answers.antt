@@ -6,10 +6,10 @@ pub returns-then-word-eq0 : goal.returns-then-word-eq0
 returns-then-word-eq0 c = empty _ c.if-word-eq0.true
 
 pub returns-then-word-gt9 : goal.returns-then-word-gt9
-returns-then-word-gt9 c = too_long _ c.if-word-gt9.true
+returns-then-word-gt9 c = too_long _ (omega arith)
 
 pub loop-i-init : goal.loop-i-init
-loop-i-init c = none_read _ c.if-word-eq0.false c.if-word-gt9.false
+loop-i-init c = none_read _ c.if-word-eq0.false (omega arith)
 
 pub returns-then-b-lt48 : goal.returns-then-b-lt48
 returns-then-b-lt48 c = too_low _ _ _ c.loop-i.invariant c.loop-i-test.true c.if-b-lt48.true

@@ -1,6 +1,5 @@
 use mathlib.Core.Path.{◌∙◌, sym}
 use native.Mathlib.Omega.{arith}
-use borrow.Author.Rules.{rules}
 use Rattle.trip_text.proofs.Rows.{none_read, no_feed, bad_row, good_row, at_end}
 use Rattle.trip_text.proofs.rows_hold.Goals as goal
 
@@ -24,9 +23,6 @@ slice_bounds-row_holds-end c = omega (arith, c.find-stop.ensures.inside)
 
 pub returns-then-not-row_holds : goal.returns-then-not-row_holds
 returns-then-not-row_holds c = bad_row _ _ _ _ _ c.loop.invariant.1 _ c.find-stop.ensures.found c.find-stop.ensures.inside c.loop-test.true (sym c.row_holds.ensures ∙ c.if-not-row_holds.true)
-
-pub overflow_add-at : goal.overflow_add-at
-overflow_add-at c = search rules
 
 pub loop-preserved : goal.loop-preserved
 loop-preserved c = (omega arith, good_row _ _ _ _ _ c.loop.invariant.1 _ c.find-stop.ensures.found c.find-stop.ensures.inside c.if-stop-rows.false (sym c.row_holds.ensures ∙ c.if-not-row_holds.false))
