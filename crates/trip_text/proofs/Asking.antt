@@ -9,7 +9,7 @@ use lib.Dec.{ltb, leb, eqb}
 use lib.ListN.{length, get_or, take, drop, length-drop}
 use lib.Seq.{take_all, take-length}
 use borrow.Author.Tests.{ltb-true, ltb-false, lt-ltb, le-ltb, eqb-true, eq-eqb, le-leb}
-use Rattle.bytes.specs.Bytes.{slice, index_of}
+use Rattle.trip_text.specs.Scan.{slice, index_of}
 use Rattle.floor.specs.declared.Floor.{Floor}
 use Rattle.floor.specs.Floor.{sizes_ok, cells, tabulate, byte, blocked, value_at, prepared, refusal}
 use Rattle.floor.proofs.Tools.{both, clash, and_1, and_2, and_i, or_cases, not_t, same_test}

@@ -8,7 +8,7 @@ use native.Mathlib.Numerals.{add-one}
 use lib.Dec.{leb, eqb}
 use lib.ListN.{length, get_or, set, take, drop, length-set}
 use borrow.Author.Tests.{eq-eqb, ne_eqb}
-use Rattle.bytes.specs.Bytes.{slice, index_of}
+use Rattle.trip_text.specs.Scan.{slice, index_of}
 use Rattle.floor.specs.Floor.{tabulate, value_at}
 use Rattle.floor.proofs.Tools.{clash, and_1, and_2, refute, below_suc}
 use Rattle.floor.proofs.Boards.{Filled, filled_none, filled_more, filled_all}

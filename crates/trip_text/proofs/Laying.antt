@@ -7,7 +7,7 @@ use native.Mathlib.Omega.{arith}
 use lib.ListN.{length, take, drop}
 use lib.Seq.{length-take-le}
 use borrow.Author.Tests.{eq-eqb, lt-ltb}
-use Rattle.bytes.specs.Bytes.{slice, index_of}
+use Rattle.trip_text.specs.Scan.{slice, index_of}
 use Rattle.floor.specs.Floor.{sizes_ok, cells, tabulate, byte, prepare_refusal, prepared, PreparePromise}
 use Rattle.floor.proofs.Boards.{length-tabulate}
 use Rattle.floor.proofs.Grid.{area}

@@ -1,5 +1,5 @@
 -- No lawful text has more than 4,230 bytes, so a longer one is decided by its front.
-use Prim.Native.Nat.{ℕ, zero, suc, ◌+◌, ◌-◌, ◌*◌, ◌≤◌, ◌<◌}
+use Prim.Native.Nat.{ℕ, zero, suc, ◌+◌, ◌*◌, ◌≤◌, ◌<◌}
 use mathlib.Core.Path.{◌≡◌, ◌∙◌, refl, sym, ap}
 use mathlib.Core.Logic.{inl, inr}
 use mathlib.Core.Bool.{Bool, true, false, not, ◌&&◌, ◌||◌}
@@ -10,7 +10,7 @@ use lib.Dec.{ltb, eqb}
 use lib.ListN.{length, get_or, take, length-drop}
 use lib.Seq.{take_all, take-take, take-length, length-take-le}
 use borrow.Author.Tests.{ltb-true, ltb-false, eqb-true}
-use Rattle.bytes.specs.Bytes.{slice, index_after, index_of}
+use Rattle.trip_text.specs.Scan.{slice, index_after, index_of}
 use Rattle.floor.specs.Floor.{sizes_ok}
 use Rattle.floor.proofs.Tools.{both, and_1, and_2, refute}
 use Rattle.floor.proofs.Grid.{sides}

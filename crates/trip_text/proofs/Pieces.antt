@@ -9,7 +9,7 @@ use lib.Dec.{leb, ltb, eqb}
 use lib.ListN.{length, get_or, take, drop, length-drop}
 use lib.Seq.{take_all, take-length, drop-drop, get_or-drop}
 use borrow.Author.Tests.{ltb-true, ltb-false, le-leb, lt-leb}
-use Rattle.bytes.specs.Bytes.{slice, index_after, index_of}
+use Rattle.trip_text.specs.Scan.{slice, index_after, index_of}
 use Rattle.floor.proofs.Tools.{both}
 use Rattle.rules.specs.Printer.{joined, split}
 

@@ -12,7 +12,7 @@ use lib.Dec.{eqb}
 use lib.ListN.{length, get_or, take, drop, length-drop, drop_of_length-le}
 use lib.Seq.{length-take-le, take-length, get_or-take, get_or-drop}
 use borrow.Author.Tests.{eqb-true, eqb-false, eq-eqb, ne_eqb}
-use Rattle.bytes.specs.Bytes.{slice, index_of}
+use Rattle.trip_text.specs.Scan.{slice, index_of}
 use Rattle.rules.specs.Sound.{every}
 use Rattle.rules.specs.Printer.{split, row_ok}
 use Rattle.floor.specs.Floor.{byte}

@@ -1,4 +1,4 @@
--- A text as the code reads it, part by part. No promise rests on these names: what they come to is `heardIn`, and that is proved.
+-- A text as the code reads it, part by part. No promise rests on these names: what they come to is `heard_in`, and that is proved.
 use Rattle.std.specs.Prelude.{ℕ, zero, suc, ◌+◌, ◌/◌, ◌%◌}
 use mathlib.Core.{Bool.Bool, Bool.true, Bool.false, Bool.not, Bool.◌&&◌, List.List, List.[], List.◌∷◌}
 use lib.{Dec.ltb, Dec.leb, Dec.eqb, ListN.length, ListN.get_or}

@@ -1,14 +1,15 @@
 // The text that the trip printer is given: its first line, `width height start goal lookahead limit allowance`, and the rows of the
 // floor's plan.
 #![tactic(auto)]
-ghost use Rattle.std.specs.Prelude.{◌≡◌, true, ◌≤◌, ◌<◌, length};
+
+ghost use Rattle.std.specs.Prelude.{◌≡◌, true, ◌+◌, ◌≤◌, ◌<◌, length};
 ghost use Rattle.floor.specs.Floor.{sizes_ok, cells, tabulate, byte};
 ghost use Rattle.rules.specs.Printer.{field, row_ok, asked};
 ghost use Rattle.trip_text.specs.declared.Heard.TheVariants.{Asked};
 ghost use Rattle.trip_text.specs.Heard.{heard_in, fronted, ReadPromise};
+ghost use Rattle.trip_text.specs.Scan.{slice, index_of};
 ghost use Rattle.trip_text.specs.Parts.{number_in, in_place, line_ok, errand_of, rest_ok, mark, errand_refusal, judged};
 
-use bytes::scan::find;
 use floor::{Floor, Lookahead, MoveLimit};
 use refusals::{cells_hold, settings_hold};
 
@@ -40,6 +41,20 @@ enum Word {
 
 // The largest allowance.
 const MOST_MOVES: u32 = 16384;
+
+// Where the byte first stands in text[from..to], or `to` where it stands nowhere there.
+fn find(text: &[u8], from: usize, to: usize, byte: u8) -> usize
+    requires { (from ≤ to) × (to ≤ length text.now) }
+    ensures found { result ≡ from + index_of byte (slice from to text.now) }
+    ensures inside { result ≤ to }
+{
+    for i in from..to {
+        if text[i] == byte {
+            return i;
+        }
+    }
+    to
+}
 
 // The number that a word says: one to nine digits.
 fn number(word: &[u8]) -> Word
