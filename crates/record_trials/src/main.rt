@@ -1,11 +1,13 @@
 // Tries each rule of trip records: with a record or a file that breaks this rule and no other, and with one on the lawful side of it.
 // What it has to print stands in the file stdout; it follows from document 01 and was written down from there.
 #![tactic(auto)]
+
 ghost use Rattle.std.specs.Prelude.{◌≡◌, ◌+◌, ◌≤◌, ◌<◌, length};
 
-use libc::STDOUT_FILENO;
 use records::{CountAnswer, ReadAnswer, WriteAnswer};
 use rules::Trip;
+
+const STDOUT: i32 = 1;
 
 // Each value at the largest that is lawful, and the last cell not the goal: serial 65,535, cart 65,535, start 4,095, goal 4,095,
 // ending 3, last cell 4,094, moves 16,769,025, required 126, lookahead 4,096, move limit 4,096.
@@ -39,12 +41,12 @@ fn trip_f(serial: u16) -> Trip {
 }
 
 fn say(text: &[u8]) {
-    io::write_all(STDOUT_FILENO, text);
+    io::write_all(STDOUT, text);
 }
 
 fn say_number(text: &[u8], n: u64) {
     say(text);
-    io::print_decimal(STDOUT_FILENO, n);
+    io::print_decimal(STDOUT, n);
 }
 
 fn say_count(bytes: &[u8]) {
@@ -84,7 +86,7 @@ fn say_read(bytes: &[u8], number: usize) {
 
 fn say_byte(byte: u8) {
     say(b" ");
-    io::print_hex(STDOUT_FILENO, byte as u64, 2);
+    io::print_hex(STDOUT, byte as u64, 2);
 }
 
 fn say_bytes(bytes: &[u8]) {

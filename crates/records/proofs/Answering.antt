@@ -1,11 +1,9 @@
 -- What each answer of an entry promises, under the tests that lead to it.
-use Rattle.std.proofs.Common.{◌≡◌, ℕ, ◌*◌, ◌/◌, ◌<◌, ◌≤◌, true, false, List, [], ◌++◌, length, take, drop, sym, refl, ap, ◌∙◌, append-nil, arith, drop_of_length-le, le-ltb, lt-ltb, eq-eqb, ne_eqb}
-use lib.Seq.{take-length}
+use Rattle.std.proofs.Common.{◌≡◌, ℕ, ◌*◌, ◌/◌, ◌<◌, ◌≤◌, true, false, List, [], length, sym, refl, ap, arith, le-ltb, lt-ltb, eq-eqb, ne_eqb}
 use Rattle.floor.specs.Floor.{refusal, if_accepted}
 use Rattle.floor.proofs.Refusing.{refused_left, accepted_left}
 use Rattle.rules.specs.declared.Trip.{Trip}
 use Rattle.rules.specs.Record.{layout, trip_at, values_ok, next_serial, write_refusal, written, count_refusal, counted, read_refusal, read_trip}
-use Rattle.records.proofs.Fields.{length-layout}
 use Rattle.records.specs.declared.WriteAnswer.TheVariants as write
 use Rattle.records.specs.declared.CountAnswer.TheVariants as count
 use Rattle.records.specs.declared.ReadAnswer.TheVariants as read
@@ -65,12 +63,6 @@ module _ (t : Trip) (room : List ℕ) where
   pub no_values : length room ≡ 24 → values_ok t ≡ false → WritePromise t room (write.Refused 11) room
   unfolding write_refusal refusal
   no_values e v = write_refused (rw (eq-eqb _ _ e, v) refl) (λ z. omega arith)
-
-  -- a record copied over the whole room
-  pub copied : {l out : List ℕ} → length room ≡ 24 → l ≡ layout t → out ≡ take (length l) l ++ drop (length l) room → out ≡ layout t
-  copied {l} e same out =
-      let long : length room ≤ length (layout t) = rw (e, length-layout t) (omega arith) in
-      out ∙ rw (same, take-length (layout t), drop_of_length-le room long, append-nil (layout t)) refl
 
   pub write_done : length room ≡ 24 → values_ok t ≡ true → WritePromise t room (write.Written (next_serial t.serial)) (layout t)
   unfolding wrote written write_refusal refusal if_accepted

@@ -1,12 +1,12 @@
 -- What is written reads back: a file of records that the writer gave one after another is counted in full, and each is read as it was.
-use Rattle.std.proofs.Common.{◌≡◌, ℕ, suc, ◌+◌, ◌*◌, ◌/◌, ◌%◌, ◌<◌, List, [], ◌∷◌, ◌++◌, length, sym, refl, ap, ◌∙◌, subst, append_assoc, append-nil, arith, length-append, eq-eqb}
+use Rattle.std.proofs.Common.{◌≡◌, ℕ, suc, ◌*◌, ◌/◌, ◌%◌, ◌<◌, List, [], ◌∷◌, ◌++◌, length, sym, refl, ap, ◌∙◌, subst, append_assoc, append-nil, arith, length-append, eq-eqb}
 use Rattle.floor.specs.Floor.{refusal}
 use Rattle.floor.proofs.Refusing.{passes, passes_all}
 use Rattle.rules.specs.declared.Trip.{Trip}
 use Rattle.rules.specs.Record.{got, trip_at, record_ok, next_serial, record_tests, count_refusal}
 use Rattle.records.specs.declared.{ReadAnswer.ReadAnswer}
 use Rattle.records.specs.declared.{WriteAnswer.TheVariants.Written, CountAnswer.TheVariants.Records, ReadAnswer.TheVariants.Record}
-use Rattle.records.specs.Promise.{wrote, WritePromise, counts, CountPromise, ReadPromise}
+use Rattle.records.specs.Promise.{WritePromise, counts, CountPromise, ReadPromise}
 use Rattle.records.specs.Files.{InWidth, File, end, trip, RecordsKeep}
 use Rattle.records.proofs.Fields.{length-layout}
 use Rattle.records.proofs.Answering.{count_done, read_done}

@@ -1,5 +1,6 @@
 // Trip records: 24 bytes each, one after another, low byte first. Entries: write one, count a file's, read one by its number.
 #![tactic(auto)]
+
 ghost use Rattle.std.specs.Prelude.{◌≡◌, ◌+◌, ◌*◌, ◌/◌, ◌%◌, ◌≤◌, length};
 ghost use Rattle.rules.specs.Record.{got, layout, trip_at, values_ok, record_ok, next_serial, follows, count_refusal};
 ghost use Rattle.records.specs.Promise.{WritePromise, CountPromise, ReadPromise};
@@ -182,7 +183,7 @@ pub fn write(trip: Trip, room: &mut [u8]) -> WriteAnswer
         return WriteAnswer::Refused(11);
     }
     let laid = layout(trip);
-    bytes::copy(&laid, room);
+    room.copy_from_slice(&laid);
     WriteAnswer::Written(next_serial(trip.serial))
 }
 

@@ -1,25 +1,11 @@
 -- What was put from a place on, with what was put behind it.
-use Prim.Native.Nat.{ℕ, ◌+◌, ◌-◌, ◌≤◌}
-use mathlib.Core.Path.{◌≡◌, ◌∙◌, sym, ap}
-use mathlib.Core.List.{List, [], ◌++◌, append_assoc, append-nil}
+use Prim.Native.Nat.{ℕ}
+use mathlib.Core.Path.{◌≡◌, ◌∙◌, sym}
+use mathlib.Core.List.{List, ◌++◌, append_assoc}
 use native.Mathlib.Omega.{arith}
-use lib.ListN.{length, take, drop, length-append, length-take, length-drop, drop_of_length-le}
-use lib.Seq.{take_all, take-length, drop-drop, take_at, drop_at}
-use borrow.Rule.Slice.PartMut.{mid_of, put_mid}
+use lib.ListN.{length, take, drop, length-append, length-take, length-drop}
+use lib.Seq.{drop-drop, take_at, drop_at}
 use Rattle.trip_lines.specs.Placed.{Placed}
-
--- a copy into the part that is lent from `at` on
-pub given_back : (at : ℕ) (bytes out ys : List ℕ) (k : ℕ) → at + length bytes ≤ length out → k ≡ length bytes
-    → ys ≡ take (length bytes) bytes ++ drop (length bytes) (mid_of at (length out - at) out)
-    → Placed at bytes out (at + k) (put_mid at (length out - at) out ys)
-given_back at bytes out ys k room e is =
-    let whole : mid_of at (length out - at) out ≡ drop at out = take_all (length out - at) (drop at out) (simp length-drop (omega arith)) in
-    let none : drop (length out - at) (drop at out) ≡ [] = drop_of_length-le (drop at out) {i = length out - at} (simp length-drop (omega arith)) in
-    record {
-      ends = ap (λ (j : ℕ). at + j) e;
-      fits = omega arith;
-      puts = rw (is, whole, none, append-nil, take-length bytes, drop-drop, e);
-    }
 
 module _ {at e : ℕ} {a out m : List ℕ} (p : Placed at a out e m) where
   -- the front that stands

@@ -1,5 +1,6 @@
 // The lines that the trip printer prints, each put into a lent buffer.
 #![tactic(auto)]
+
 ghost use Rattle.std.specs.Prelude.{◌+◌, ◌*◌, ◌≤◌, ◌++◌, length, take};
 ghost use Rattle.io.specs.Counts.{IsPrefixLen};
 ghost use Rattle.rules.specs.Printer.{ascii, decimal, leg_line, end_line, spaced};
@@ -25,7 +26,8 @@ fn put(bytes: &[u8], out: &mut [u8], at: usize) -> usize
     requires { at + length bytes.now ≤ length out.old }
     ensures { Placed at bytes.now out.old result out.new }
 {
-    at + bytes::copy(bytes, &mut out[at..])
+    out[at..at + bytes.len()].copy_from_slice(bytes);
+    at + bytes.len()
 }
 
 // Puts a word and after it a number in decimal, which has at most ten digits.
