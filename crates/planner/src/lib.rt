@@ -1,6 +1,7 @@
 // The C interface: each function hands its numbers to an entry, tells the answer's numbers in the lent array, and answers 0 or the
 // refusal's number. include/wexlund.h declares them.
 #![tactic(auto)]
+
 ghost use Rattle.std.specs.Prelude.{◌≡◌};
 ghost use Rattle.floor.specs.Floor.{value_at};
 ghost use Rattle.rules.specs.Request.{number_of};

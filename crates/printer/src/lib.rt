@@ -1,5 +1,6 @@
 // The trip printer, turn by turn: a turn says one line and answers what comes after it, until the trip is over.
 #![tactic(auto)]
+
 ghost use Rattle.std.specs.Prelude.{ℕ, ◌≡◌, List};
 ghost use Rattle.floor.specs.Floor.{cells, tabulate};
 ghost use Rattle.printer.specs.declared.Turn.TheVariants.{Onward};

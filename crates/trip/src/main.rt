@@ -1,7 +1,11 @@
 // The trip printer: reads a trip's text from standard input, and prints its legs, its end and its estimates, line by line.
 #![tactic(auto)]
-use libc::{STDERR_FILENO, STDIN_FILENO, STDOUT_FILENO};
 use printer::Turn;
+
+// The numbers of the standard streams.
+const STDIN: i32 = 0;
+const STDOUT: i32 = 1;
+const STDERR: i32 = 2;
 
 // All that is printed takes at most so many turns: a line for each of 16,384 legs, the end and the estimates.
 const MOST_TURNS: usize = 16386;
@@ -17,8 +21,8 @@ fn print_turn(
     let line = next.line;
     let mut out = [0u8; 32768];
     let end = trip_lines::put_line(line, est, &mut out);
-    if !io::write_all(STDOUT_FILENO, &out[..end]) {
-        io::write_all(STDERR_FILENO, b"trip: cannot write to standard output\n");
+    if !io::write_all(STDOUT, &out[..end]) {
+        io::write_all(STDERR, b"trip: cannot write to standard output\n");
         return Turn::Over;
     }
     next.turn
@@ -27,7 +31,7 @@ fn print_turn(
 // Reads on, and answers whether there was more to read.
 fn read_more() -> bool {
     let mut rest = io::large_buffer();
-    io::read_full(STDIN_FILENO, &mut rest) > 0
+    io::read_full(STDIN, &mut rest) > 0
 }
 
 // Reads on to the end of standard input. Nothing says that it has one, and a proved loop has to end: so the turns are counted down,
@@ -42,7 +46,7 @@ fn read_on() {
 // A text that fills the buffer is longer than any lawful one, and its front decides what is printed.
 fn main() {
     let mut text = io::large_buffer();
-    let n = io::read_full(STDIN_FILENO, &mut text);
+    let n = io::read_full(STDIN, &mut text);
     let mut plan = [0u8; 4096];
     let mut known = [0u8; 4096];
     let mut est = [0u16; 4096];

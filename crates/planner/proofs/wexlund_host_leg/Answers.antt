@@ -1,0 +1,14 @@
+-- The entry's promise, with the answer told and the record in its four numbers.
+use mathlib.Core.Path.{refl}
+use borrow.Author.Rules.{rules}
+use Rattle.floor.specs.Floor.{value_at}
+use Rattle.refusals.specs.Given.{given}
+use Rattle.planner.specs.Interface.{four_of}
+use Rattle.planner.proofs.Hosting.{host_told}
+use Rattle.planner.proofs.wexlund_host_leg.Goals as goal
+
+pub returns : goal.returns
+unfolding given four_of value_at
+returns c =
+    rw (c.cart_of-given.ensures, c.four_of-numbers.ensures, c.tell_leg.ensures.0, c.tell_leg.ensures.1)
+    (host_told _ _ _ refl c.leg_for-hosted.ensures)
