@@ -1,10 +1,13 @@
 // The trip printer: reads a trip's text from standard input, and prints its legs, its end and its estimates, line by line.
 #![tactic(auto)]
+
 use printer::Turn;
 
 // The numbers of the standard streams.
 const STDIN: i32 = 0;
+
 const STDOUT: i32 = 1;
+
 const STDERR: i32 = 2;
 
 // All that is printed takes at most so many turns: a line for each of 16,384 legs, the end and the estimates.

@@ -1,0 +1,6 @@
+use native.Mathlib.Omega.{arith}
+use borrow.Author.Rules.{rules}
+use Rattle.trip.proofs.read_on.Goals as goal
+
+pub loop-turns-smaller : goal.loop-turns-smaller
+loop-turns-smaller c = omega arith
