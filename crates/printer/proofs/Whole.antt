@@ -13,7 +13,7 @@ use Rattle.rules.specs.Sound.{every}
 use Rattle.rules.specs.Request.{walk_of}
 use Rattle.rules.specs.Printer.{split, is_number, word, line_at, first_line_ok, asked, trip, printed}
 use Rattle.theory.proofs.Accepts.{Accepted, accepted}
-use Rattle.trip_text.specs.declared.Heard.{Heard, TheVariants.BadInput, TheVariants.Refused, TheVariants.Asked}
+use Rattle.trip_text.specs.declared.Heard.{Heard, TheVariants.Asked}
 use Rattle.trip_text.specs.Heard.{fronted, errand_in, laid, ReadPromise}
 use Rattle.trip_text.proofs.Forms.{r, allowance, test, refuses, heard_as, heard, printed_as, printed_is}
 use Rattle.trip_lines.specs.declared.Line.TheVariants as line

@@ -8,7 +8,6 @@ use borrow.Author.Tests.{ltb-true, leb-true, eqb-true, lt-ltb, le-leb, eq-eqb}
 use Rattle.floor.specs.Floor.{sizes_ok, cells, blocked, value_at}
 use Rattle.floor.proofs.Tools.{and_1, and_2, not_t}
 use Rattle.floor.proofs.Refusing.{passed, passes, passes_all}
-use Rattle.rules.specs.Sound.{within, sound}
 use Rattle.rules.specs.Request.{Request, setting_ok, walk_refusal}
 use Rattle.theory.proofs.Soundness.{every_at, every_i, Within, within_facts, within_test, Sound, sound_facts, sound_test}
 

@@ -13,28 +13,28 @@ use Rattle.floor.proofs.required.Goals as goal
 some_number : (n : ℕ) → Refused (suc n) ≡ Refused 0 → ⊥
 some_number n e = let z : ◌≡◌ {A = ℕ} (suc n) 0 = cc in omega arith
 
-no-refusal : (n : ℕ) → Moves n ≡ Refused 0 → ⊥
-no-refusal n e = let z : ◌≡◌ {A = ℕ} 0 1 = cc in omega arith
+no_refusal : (n : ℕ) → Moves n ≡ Refused 0 → ⊥
+no_refusal n e = let z : ◌≡◌ {A = ℕ} 0 1 = cc in omega arith
 
 module _ (f : Floor) (start goal : ℕ) where
-  no-floor : sizes_ok f ≡ false → RequiredPromise f start goal (Refused 1)
+  no_floor : sizes_ok f ≡ false → RequiredPromise f start goal (Refused 1)
   unfolding required_refusal refusal if_accepted
-  no-floor s = record { answers = rw s; figure = rw s; numbered = some_number 0 }
+  no_floor s = record { answers = rw s; figure = rw s; numbered = some_number 0 }
 
   no_start : sizes_ok f ≡ true → cells f ≤ start → RequiredPromise f start goal (Refused 3)
   unfolding required_refusal refusal if_accepted
   no_start s a = record { answers = rw (s, le-ltb _ _ a); figure = rw (s, le-ltb _ _ a); numbered = some_number 2 }
 
-  no-goal : sizes_ok f ≡ true → start < cells f → cells f ≤ goal → RequiredPromise f start goal (Refused 3)
+  no_goal : sizes_ok f ≡ true → start < cells f → cells f ≤ goal → RequiredPromise f start goal (Refused 3)
   unfolding required_refusal refusal if_accepted
-  no-goal s a b = record { answers = rw (s, lt-ltb _ _ a, le-ltb _ _ b); figure = rw (s, lt-ltb _ _ a, le-ltb _ _ b); numbered = some_number 2 }
+  no_goal s a b = record { answers = rw (s, lt-ltb _ _ a, le-ltb _ _ b); figure = rw (s, lt-ltb _ _ a, le-ltb _ _ b); numbered = some_number 2 }
 
   accepted : sizes_ok f ≡ true → start < cells f → goal < cells f → RequiredPromise f start goal (Moves (manhattan f start goal))
   unfolding required_refusal refusal if_accepted
-  accepted s a b = record { answers = rw (s, lt-ltb _ _ a, lt-ltb _ _ b); figure = rw (s, lt-ltb _ _ a, lt-ltb _ _ b); numbered = no-refusal (manhattan f start goal) }
+  accepted s a b = record { answers = rw (s, lt-ltb _ _ a, lt-ltb _ _ b); figure = rw (s, lt-ltb _ _ a, lt-ltb _ _ b); numbered = no_refusal (manhattan f start goal) }
 
 pub returns-then-not-sizes_hold : goal.returns-then-not-sizes_hold
-returns-then-not-sizes_hold c = no-floor _ _ _ (sym c.sizes_hold.ensures ∙ c.if-not-sizes_hold.true)
+returns-then-not-sizes_hold c = no_floor _ _ _ (sym c.sizes_hold.ensures ∙ c.if-not-sizes_hold.true)
 
 sized : (c : Else-not-sizes_hold) → sizes_ok c.args.floor ≡ true
 sized c = sym c.sizes_hold.ensures ∙ c.if-not-sizes_hold.false
@@ -43,7 +43,7 @@ pub returns-then-n-start : goal.returns-then-n-start
 returns-then-n-start c = no_start _ _ _ (sized (goal.at.returns-then-n-start c).Else-not-sizes_hold) (omega arith)
 
 pub returns-then-n-goal : goal.returns-then-n-goal
-returns-then-n-goal c = no-goal _ _ _ (sized (goal.at.returns-then-n-goal c).Else-not-sizes_hold) (omega arith) (omega arith)
+returns-then-n-goal c = no_goal _ _ _ (sized (goal.at.returns-then-n-goal c).Else-not-sizes_hold) (omega arith) (omega arith)
 
 pub manhattan-requires : goal.manhattan-requires
 manhattan-requires c = record {

@@ -1,6 +1,5 @@
 -- Each field of the new record is the definition's.
 use mathlib.Core.Path.{refl}
-use borrow.Author.Rules.{rules}
 use Rattle.host.specs.Host.{booked}
 use Rattle.host.proofs.booked.Goals as goal
 

@@ -1,5 +1,4 @@
 -- The leg's own promise is passed on, and the record after it is the definition's.
-use borrow.Author.Rules.{rules}
 use Rattle.refusals.specs.Given.{given}
 use Rattle.host.proofs.leg_for.Goals as goal
 

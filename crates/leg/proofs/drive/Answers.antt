@@ -1,14 +1,9 @@
-use Prim.Native.Nat.{◌-◌, ◌≤◌}
 use mathlib.Core.Path.{◌∙◌, refl, sym}
 use native.Mathlib.Omega.{arith}
 use lib.ListN.{length-set}
-use borrow.Author.Rules.{rules}
-use Rattle.floor.specs.Floor.{blocked}
-use Rattle.rules.specs.Leg.{sense}
-use Rattle.leg.specs.Moving.{Maps}
 use Rattle.leg.proofs.Marking.{maps_kept}
 use Rattle.leg.proofs.Looking.{barred_later}
-use Rattle.leg.proofs.Driving.{Going, going_none, going_on, arrives, halts}
+use Rattle.leg.proofs.Driving.{going_none, going_on, arrives, halts}
 use Rattle.leg.proofs.drive.Goals as goal
 
 pub loop-moves-init : goal.loop-moves-init
@@ -38,8 +33,7 @@ returns-then-sense_and_look c =
 
 pub loop-moves-preserved : goal.loop-moves-preserved
 loop-moves-preserved c =
-    let i = c.loop-moves.invariant in
-    (
+    let i = c.loop-moves.invariant in (
       omega arith,
       maps_kept i.1 (omega arith) c.sense_and_look.ensures.bytes,
       going_on _ _ _ _ _ _ _ _ _ _ _ _ i.2 _ (omega arith) (omega arith) c.requires.maps.3 c.route_cell-cell.ensures c.sense_and_look.ensures.seen (sym c.sense_and_look.ensures.looks ∙ c.if-sense_and_look.false),

@@ -1,15 +1,9 @@
 -- What is still to be driven from here, after the moves made, is what was asked for. The measure is the moves still allowed.
 use Prim.Native.Nat.{◌-◌, ◌≤◌}
-use mathlib.Core.Path.{◌∙◌, refl, sym}
-use native.Mathlib.Omega.{arith}
-use lib.ListN.{length-set}
-use borrow.Author.Rules.{rules}
 use Rattle.floor.specs.Floor.{blocked}
 use Rattle.rules.specs.Leg.{sense}
 use Rattle.leg.specs.Moving.{Maps}
-use Rattle.leg.proofs.Marking.{maps_kept}
-use Rattle.leg.proofs.Looking.{barred_later}
-use Rattle.leg.proofs.Driving.{Going, going_none, going_on, arrives, halts}
+use Rattle.leg.proofs.Driving.{Going}
 use Rattle.leg.proofs.drive.Given as goal
 
 abbrev pub invariant-loop-moves : goal.invariant-loop-moves

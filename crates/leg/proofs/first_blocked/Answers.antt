@@ -1,10 +1,5 @@
-use Prim.Native.Nat.{◌-◌, ◌≤◌}
-use mathlib.Core.Path.{◌≡◌, ◌∙◌, refl}
+use mathlib.Core.Path.{◌∙◌, refl}
 use native.Mathlib.Omega.{arith}
-use borrow.Author.Rules.{rules}
-use Rattle.floor.specs.Floor.{blocked}
-use Rattle.room.specs.Layout.{route_from}
-use Rattle.leg.specs.Moving.{first_blocked}
 use Rattle.leg.proofs.Looking.{at_end, at_blocked, at_open}
 use Rattle.leg.proofs.first_blocked.Goals as goal
 

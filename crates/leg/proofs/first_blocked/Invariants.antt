@@ -1,12 +1,9 @@
 -- What is found from `i` on is what is found from the start on. The measure is the cells still ahead.
 use Prim.Native.Nat.{◌-◌, ◌≤◌}
-use mathlib.Core.Path.{◌≡◌, ◌∙◌, refl}
-use native.Mathlib.Omega.{arith}
-use borrow.Author.Rules.{rules}
+use mathlib.Core.Path.{◌≡◌}
 use Rattle.floor.specs.Floor.{blocked}
 use Rattle.room.specs.Layout.{route_from}
 use Rattle.leg.specs.Moving.{first_blocked}
-use Rattle.leg.proofs.Looking.{at_end, at_blocked, at_open}
 use Rattle.leg.proofs.first_blocked.Given as goal
 
 abbrev pub invariant-loop-i : goal.invariant-loop-i

@@ -1,16 +1,15 @@
 -- The moves are the rules'.
 use mathlib.Core.Path.{refl}
 use native.Mathlib.Omega.{arith}
-use borrow.Author.Rules.{rules}
 use Rattle.leg.proofs.Driving.{moves_short}
 use Rattle.leg.proofs.Coming.{came_driven}
 use Rattle.leg.proofs.follow.Goals as goal
 
 pub drive-drove-requires : goal.drive-drove-requires
 drive-drove-requires c = record {
-      maps = c.requires.maps;
-      ahead_value = c.requires.ahead_value;
-    }
+  maps = c.requires.maps;
+  ahead_value = c.requires.ahead_value;
+}
 
 pub overflow_cast-result : goal.overflow_cast-result
 overflow_cast-result c = omega (arith, moves_short _ _ _ _ _ _ _ _ _ c.drive-drove.ensures, c.requires.limit_bound.0)

@@ -1,12 +1,9 @@
 -- What `check` refuses is refused; what it passes is run in a room that is empty.
-use Prim.Native.Nat.{◌*◌, ◌≤◌}
 use mathlib.Core.Path.{◌≡◌}
 use mathlib.Core.Bool.{true}
 use native.Mathlib.Omega.{arith}
-use borrow.Author.Rules.{rules}
 use Rattle.floor.specs.Floor.{sizes_ok}
 use Rattle.refusals.specs.Given.{given}
-use Rattle.room.specs.Layout.{columns}
 use Rattle.room.proofs.Holding.{room_fits, room_ready}
 use Rattle.leg.proofs.Running.{tested, refuses, passes}
 use Rattle.leg.proofs.leg.Goals.{Else-refused-ne0}
@@ -31,9 +28,9 @@ slice_bounds-run_leg-end c = omega (arith, c.cells-n.ensures, (room_ready _ (siz
 
 pub run_leg-done-requires : goal.run_leg-done-requires
 run_leg-done-requires c = record {
-      trail_value = passes _ _ _ _ _ _ _ _ _ _ c.check-refused.ensures c.if-refused-ne0.false;
-      room_len = room_ready _ (sized (goal.at.run_leg-done-requires c).Else-refused-ne0) _ c.cells-n.ensures _ c.new_room-room.ensures;
-    }
+  trail_value = passes _ _ _ _ _ _ _ _ _ _ c.check-refused.ensures c.if-refused-ne0.false;
+  room_len = room_ready _ (sized (goal.at.run_leg-done-requires c).Else-refused-ne0) _ c.cells-n.ensures _ c.new_room-room.ensures;
+}
 
 pub returns : goal.returns
 returns c = c.run_leg-done.ensures.leg_promise

@@ -1,7 +1,6 @@
 -- One neighbour: off the floor, no news, or marked now.
 use Prim.Native.Nat.{◌<◌}
 use native.Mathlib.Omega.{arith}
-use borrow.Author.Rules.{rules}
 use Rattle.floor.specs.Floor.{cells}
 use Rattle.floor.proofs.Headings.{to_cell}
 use Rattle.leg.proofs.Marking.{off_floor, no_news, now_marked}

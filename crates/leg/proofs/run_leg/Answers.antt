@@ -2,7 +2,6 @@
 use Prim.Native.Nat.{◌<◌}
 use mathlib.Core.Path.{◌∙◌}
 use native.Mathlib.Omega.{arith}
-use borrow.Author.Rules.{rules}
 use Rattle.floor.specs.Floor.{cells}
 use Rattle.refusals.specs.Given.{given}
 use Rattle.leg.proofs.Marking.{maps_kept}
@@ -23,9 +22,9 @@ stayed-requires c = (omega (arith, on_floor (goal.at.stayed-requires c).Start), 
 
 pub returns-then-cart-goal : goal.returns-then-cart-goal
 returns-then-cart-goal c = record {
-      leg_promise = on_goal _ _ _ _ _ _ _ _ _ c.requires.trail_value _ c.if-cart-goal.true c.stayed.ensures.0 c.stayed.ensures.1 c.stayed.ensures.2 c.stayed.ensures.3;
-      clean = c.requires.room_len.1;
-    }
+  leg_promise = on_goal _ _ _ _ _ _ _ _ _ c.requires.trail_value _ c.if-cart-goal.true c.stayed.ensures.0 c.stayed.ensures.1 c.stayed.ensures.2 c.stayed.ensures.3;
+  clean = c.requires.room_len.1;
+}
 
 pub sense-requires : goal.sense-requires
 sense-requires c = (maps _ _ _ _ _ _ _ _ _ c.requires.trail_value, inside (goal.at.sense-requires c).Start)

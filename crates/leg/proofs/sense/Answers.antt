@@ -1,6 +1,5 @@
 -- Four headings, one after another, sense all neighbours.
 use native.Mathlib.Omega.{arith}
-use borrow.Author.Rules.{rules}
 use Rattle.leg.proofs.Marking.{maps_kept, all_four}
 use Rattle.leg.proofs.sense.Goals as goal
 

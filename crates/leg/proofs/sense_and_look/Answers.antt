@@ -1,6 +1,4 @@
 -- Nothing new, nothing blocked ahead; else the look tells.
-use borrow.Author.Tests.{not-true}
-use borrow.Author.Rules.{rules}
 use Rattle.leg.proofs.Looking.{found_before, looked, not_needed}
 use Rattle.leg.proofs.sense_and_look.Goals as goal
 

@@ -1,5 +1,4 @@
 -- An array of four is the four numbers of the record that is made of it.
-use borrow.Author.Rules.{rules}
 use Rattle.planner.specs.Interface.{four_of}
 use Rattle.planner.proofs.Hosting.{four}
 use Rattle.planner.proofs.cart_of.Goals as goal

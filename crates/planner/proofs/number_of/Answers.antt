@@ -1,6 +1,5 @@
 -- Each ending's number is the definition's.
 use mathlib.Core.Path.{refl}
-use borrow.Author.Rules.{rules}
 use Rattle.rules.specs.Request.{number_of}
 use Rattle.planner.proofs.number_of.Goals as goal
 

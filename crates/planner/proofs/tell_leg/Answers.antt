@@ -1,6 +1,5 @@
 -- The numbers of a result and those of a refusal are the definition's.
 use mathlib.Core.Path.{refl}
-use borrow.Author.Rules.{rules}
 use Rattle.leg.specs.Promise.{refused_by, told}
 use Rattle.planner.proofs.tell_leg.Goals as goal
 

@@ -1,7 +1,5 @@
 -- The values stand in the layout's order.
 use mathlib.Core.Path.{refl}
-use native.Mathlib.Omega.{arith}
-use borrow.Author.Rules.{rules}
 use Rattle.planner.specs.Interface.{values}
 use Rattle.planner.proofs.values.Goals as goal
 

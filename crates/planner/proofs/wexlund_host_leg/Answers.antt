@@ -1,6 +1,5 @@
 -- The entry's promise, with the answer told and the record in its four numbers.
 use mathlib.Core.Path.{refl}
-use borrow.Author.Rules.{rules}
 use Rattle.floor.specs.Floor.{value_at}
 use Rattle.refusals.specs.Given.{given}
 use Rattle.planner.specs.Interface.{four_of}

@@ -1,5 +1,4 @@
 -- The entry's promise, told.
-use borrow.Author.Rules.{rules}
 use Rattle.planner.proofs.Telling.{prepare_told}
 use Rattle.planner.proofs.wexlund_prepare.Goals as goal
 

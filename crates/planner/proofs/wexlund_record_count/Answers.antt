@@ -1,5 +1,4 @@
 -- The entry's promise, told for each answer.
-use borrow.Author.Rules.{rules}
 use Rattle.records.specs.Promise.{counts}
 use Rattle.planner.proofs.Telling.{count_told}
 use Rattle.planner.proofs.wexlund_record_count.Goals as goal

@@ -1,5 +1,4 @@
 -- The entry's promise, told for each answer.
-use borrow.Author.Rules.{rules}
 use Rattle.records.specs.Promise.{reads}
 use Rattle.planner.proofs.Telling.{read_told, no_values}
 use Rattle.planner.proofs.wexlund_record_read.Goals as goal

@@ -1,5 +1,4 @@
 -- The entry's promise, told for each answer.
-use borrow.Author.Rules.{rules}
 use Rattle.records.specs.Promise.{wrote}
 use Rattle.planner.proofs.Telling.{write_told}
 use Rattle.planner.proofs.wexlund_record_write.Goals as goal

@@ -1,5 +1,4 @@
 -- The entry's promise, told for each answer.
-use borrow.Author.Rules.{rules}
 use Rattle.planner.proofs.Telling.{required_told}
 use Rattle.planner.proofs.wexlund_required.Goals as goal
 

@@ -1,5 +1,4 @@
 -- The entry's promise, with the answer told.
-use borrow.Author.Rules.{rules}
 use Rattle.planner.proofs.wexlund_walk.Goals as goal
 
 pub returns : goal.returns

@@ -1,6 +1,5 @@
 -- Each turn is the definition's.
 use mathlib.Core.Path.{refl}
-use borrow.Author.Rules.{rules}
 use Rattle.printer.specs.Turns.{first_turn}
 use Rattle.printer.proofs.first.Goals as goal
 

@@ -1,10 +1,4 @@
 -- By the ending: cut off, or another.
-use Prim.Native.Nat.{ℕ}
-use mathlib.Core.Path.{◌≡◌}
-use mathlib.Core.Logic.{◌⊎◌, inl, inr}
-use native.Mathlib.Omega.{arith}
-use borrow.Author.Rules.{rules}
-use Rattle.floor.specs.declared.Ending.TheVariants.{CutOff}
 use Rattle.printer.proofs.Making.{cut_told, leg_told}
 use Rattle.printer.proofs.leg_made.Goals as goal
 

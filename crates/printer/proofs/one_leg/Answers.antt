@@ -2,7 +2,6 @@
 use Prim.Native.Nat.{◌≤◌}
 use native.Mathlib.Omega.{arith}
 use lib.ListN.{length-take}
-use borrow.Author.Rules.{rules}
 use Rattle.floor.proofs.Grid.{area}
 use Rattle.printer.proofs.Making.{Hosting, hosting}
 use Rattle.printer.proofs.one_leg.Goals.{After-leg_for-hosted, Start}

@@ -1,8 +1,6 @@
 -- The tests are the definition's, and after them comes the leg.
 use mathlib.Core.Path.{◌≡◌, ◌∙◌, sym}
 use mathlib.Core.Bool.{true}
-use borrow.Author.Rules.{rules}
-use borrow.Author.Tests.{not-true, not-false}
 use Rattle.floor.specs.Floor.{sizes_ok}
 use Rattle.printer.proofs.Cases.{bad_sizes, on_floor, arrived, spent}
 use Rattle.printer.proofs.onward.Goals.{Else-not-sizes_hold}
@@ -27,8 +25,7 @@ returns-then-errand-cart c =
     (sym (spent c.args.errand c.args.cart c.args.plan.now c.args.known.now c.args.est.now (sized (goal.at.returns-then-errand-cart c).Else-not-sizes_hold) c.if-cart-errand.false c.if-errand-cart.true))
 
 pub one_leg-requires : goal.one_leg-requires
-one_leg-requires c =
-    (
+one_leg-requires c = (
   c.requires,
   record {
     sized = sized (goal.at.one_leg-requires c).Else-not-sizes_hold;

@@ -1,6 +1,5 @@
 -- Each kind of turn by its definition.
 use mathlib.Core.Path.{refl}
-use borrow.Author.Rules.{rules}
 use Rattle.printer.specs.Turns.{turned}
 use Rattle.printer.proofs.take_turn.Goals as goal
 

@@ -1,11 +1,6 @@
-use Prim.Native.Nat.{◌-◌, ◌≤◌}
-use mathlib.Core.Path.{◌≡◌, refl}
-use mathlib.Core.Bool.{◌&&◌}
+use mathlib.Core.Path.{refl}
 use native.Mathlib.Omega.{arith}
-use lib.Dec.{leb}
-use borrow.Author.Rules.{rules}
 use Rattle.floor.specs.Floor.{value_at}
-use Rattle.rules.specs.Sound.{every}
 use Rattle.refusals.proofs.Flags.{every_none, every_more, every_all}
 use Rattle.refusals.proofs.bytes_hold.Goals as goal
 

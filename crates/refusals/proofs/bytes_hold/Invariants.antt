@@ -1,13 +1,10 @@
 -- The flag is the test of both bytes at each cell so far. The measure is the cells still to test.
 use Prim.Native.Nat.{◌-◌, ◌≤◌}
-use mathlib.Core.Path.{◌≡◌, refl}
+use mathlib.Core.Path.{◌≡◌}
 use mathlib.Core.Bool.{◌&&◌}
-use native.Mathlib.Omega.{arith}
 use lib.Dec.{leb}
-use borrow.Author.Rules.{rules}
 use Rattle.floor.specs.Floor.{value_at}
 use Rattle.rules.specs.Sound.{every}
-use Rattle.refusals.proofs.Flags.{every_none, every_more, every_all}
 use Rattle.refusals.proofs.bytes_hold.Given as goal
 
 abbrev pub invariant-loop-x : goal.invariant-loop-x

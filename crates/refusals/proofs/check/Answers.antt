@@ -3,7 +3,6 @@ use mathlib.Core.Path.{◌≡◌}
 use mathlib.Core.Bool.{true, ◌&&◌}
 use lib.Dec.{ltb, leb, eqb}
 use lib.ListN.{length}
-use borrow.Author.Rules.{rules}
 use borrow.Author.Tests.{lt-leb, le-leb}
 use Rattle.floor.specs.Floor.{sizes_ok, cells, refusal}
 use Rattle.rules.specs.Request.{walk_refusal, setting_ok}
@@ -54,10 +53,10 @@ returns-then-trail-needed c = rw (sized (goal.at.returns-then-trail-needed c).El
 
 pub maps_check-requires : goal.maps_check-requires
 maps_check-requires c = record {
-      floor_value = sized (goal.at.maps_check-requires c).Else-not-sizes_hold;
-      plan_len = all_long _ _ _ _ (long (goal.at.maps_check-requires c).Else-not-lengths_hold);
-      cart_bound = both_below _ _ _ (inside (goal.at.maps_check-requires c).Else-not-cells_hold);
-    }
+  floor_value = sized (goal.at.maps_check-requires c).Else-not-sizes_hold;
+  plan_len = all_long _ _ _ _ (long (goal.at.maps_check-requires c).Else-not-lengths_hold);
+  cart_bound = both_below _ _ _ (inside (goal.at.maps_check-requires c).Else-not-cells_hold);
+}
 
 pub returns : goal.returns
 unfolding walk_refusal given refusal

@@ -1,11 +1,7 @@
-use Prim.Native.Nat.{◌-◌, ◌≤◌}
-use mathlib.Core.Path.{◌≡◌, refl, sym}
+use mathlib.Core.Path.{refl, sym}
 use native.Mathlib.Omega.{arith}
-use lib.Dec.{leb}
-use borrow.Author.Rules.{rules}
 use Rattle.floor.specs.Floor.{value_at}
 use Rattle.floor.proofs.Grid.{sides, area}
-use Rattle.rules.specs.Sound.{every}
 use Rattle.refusals.proofs.Adjoining.{first_row}
 use Rattle.refusals.proofs.Flags.{every_none, every_more, every_all}
 use Rattle.refusals.proofs.low_holds.Goals as goal

@@ -1,15 +1,10 @@
 -- The flag is the test at each cell so far. The measure is the cells still to test. N-1 is a 16-bit number, since no side is 0 and N
 -- is at most 4,096.
 use Prim.Native.Nat.{◌-◌, ◌≤◌}
-use mathlib.Core.Path.{◌≡◌, refl, sym}
-use native.Mathlib.Omega.{arith}
+use mathlib.Core.Path.{◌≡◌}
 use lib.Dec.{leb}
-use borrow.Author.Rules.{rules}
 use Rattle.floor.specs.Floor.{value_at}
-use Rattle.floor.proofs.Grid.{sides, area}
 use Rattle.rules.specs.Sound.{every}
-use Rattle.refusals.proofs.Adjoining.{first_row}
-use Rattle.refusals.proofs.Flags.{every_none, every_more, every_all}
 use Rattle.refusals.proofs.low_holds.Given as goal
 
 abbrev pub invariant-loop-x : goal.invariant-loop-x

@@ -1,7 +1,6 @@
 -- The tests go in the table's order, and each return is the refusal of the test that it stands under.
 use mathlib.Core.Path.{◌≡◌}
 use mathlib.Core.Bool.{false}
-use borrow.Author.Rules.{rules}
 use borrow.Author.Tests.{eq-eqb, ne_eqb}
 use Rattle.floor.specs.Floor.{refusal, value_at, blocked}
 use Rattle.refusals.proofs.Flags.{failed, held}

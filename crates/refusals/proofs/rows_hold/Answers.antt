@@ -1,11 +1,5 @@
-use Prim.Native.Nat.{◌-◌, ◌*◌, ◌≤◌}
-use mathlib.Core.Path.{◌≡◌}
 use native.Mathlib.Omega.{arith}
-use borrow.Author.Rules.{rules}
-use Rattle.floor.specs.Floor.{value_at, blocked}
 use Rattle.floor.proofs.Grid.{sides}
-use Rattle.rules.specs.Sound.{every}
-use Rattle.refusals.specs.Pairs.{pairs_ok}
 use Rattle.refusals.proofs.Flags.{every_none, every_more, every_all}
 use Rattle.refusals.proofs.Adjoining.{row_fits}
 use Rattle.refusals.proofs.rows_hold.Goals as goal

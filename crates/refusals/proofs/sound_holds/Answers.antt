@@ -1,6 +1,5 @@
 -- The goal's test, the bound's and the two passes are the rule.
 use native.Mathlib.Omega.{arith}
-use borrow.Author.Rules.{rules}
 use Rattle.floor.specs.Floor.{value_at}
 use Rattle.floor.proofs.Grid.{sides}
 use Rattle.refusals.proofs.Adjoining.{first_row, sound_passes}

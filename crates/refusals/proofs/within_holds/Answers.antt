@@ -1,10 +1,7 @@
-use Prim.Native.Nat.{◌-◌, ◌≤◌}
-use mathlib.Core.Path.{◌≡◌, refl}
-use mathlib.Core.Bool.{not, ◌||◌}
+use mathlib.Core.Path.{refl}
 use native.Mathlib.Omega.{arith}
-use borrow.Author.Rules.{rules}
 use Rattle.floor.specs.Floor.{value_at, blocked}
-use Rattle.rules.specs.Sound.{every, within}
+use Rattle.rules.specs.Sound.{within}
 use Rattle.refusals.proofs.Flags.{every_none, every_more, every_all}
 use Rattle.refusals.proofs.within_holds.Goals as goal
 

@@ -1,12 +1,9 @@
 -- The flag is the test at each cell so far. The measure is the cells still to test.
 use Prim.Native.Nat.{◌-◌, ◌≤◌}
-use mathlib.Core.Path.{◌≡◌, refl}
+use mathlib.Core.Path.{◌≡◌}
 use mathlib.Core.Bool.{not, ◌||◌}
-use native.Mathlib.Omega.{arith}
-use borrow.Author.Rules.{rules}
-use Rattle.floor.specs.Floor.{value_at, blocked}
-use Rattle.rules.specs.Sound.{every, within}
-use Rattle.refusals.proofs.Flags.{every_none, every_more, every_all}
+use Rattle.floor.specs.Floor.{blocked}
+use Rattle.rules.specs.Sound.{every}
 use Rattle.refusals.proofs.within_holds.Given as goal
 
 abbrev pub invariant-loop-x : goal.invariant-loop-x

@@ -1,6 +1,5 @@
 -- The number in the route's column.
 use mathlib.Core.Path.{refl}
-use borrow.Author.Rules.{rules}
 use Rattle.floor.specs.Floor.{value_at}
 use Rattle.room.specs.Layout.{column}
 use Rattle.room.proofs.route_cell.Goals as goal

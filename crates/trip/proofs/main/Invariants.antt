@@ -1,6 +1,5 @@
 -- Nothing has to hold from line to line. The measure is the lines that may still come.
 use Prim.Native.Nat.{◌-◌}
-use borrow.Author.Rules.{rules}
 use Rattle.trip.proofs.main.Given as goal
 
 abbrev pub invariant-loop : goal.invariant-loop

@@ -1,5 +1,4 @@
 use native.Mathlib.Omega.{arith}
-use borrow.Author.Rules.{rules}
 use Rattle.trip.proofs.read_on.Goals as goal
 
 pub loop-turns-smaller : goal.loop-turns-smaller

@@ -1,6 +1,4 @@
 -- Nothing has to hold from turn to turn. The measure is the turns left.
-use native.Mathlib.Omega.{arith}
-use borrow.Author.Rules.{rules}
 use Rattle.trip.proofs.read_on.Given as goal
 
 abbrev pub invariant-loop-turns : goal.invariant-loop-turns

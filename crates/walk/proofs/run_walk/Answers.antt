@@ -1,15 +1,12 @@
-use Prim.Native.Nat.{ℕ, ◌-◌, ◌≤◌}
+use Prim.Native.Nat.{◌-◌, ◌≤◌}
 use mathlib.Core.Path.{◌≡◌, ◌∙◌, refl}
-use mathlib.Core.Logic.{◌⊎◌, inl, inr}
 use native.Mathlib.Omega.{arith}
 use lib.ListN.{length}
-use borrow.Author.Rules.{rules}
 use borrow.Rule.Slice.PartMut.{put_mid}
-use Rattle.floor.specs.declared.Ending.TheVariants.{CutOff}
 use Rattle.room.specs.Layout.{Clean}
 use Rattle.walk.specs.declared.Tally.{Tally}
 use Rattle.walk.specs.Counting.{counted}
-use Rattle.walk.proofs.Going.{Going, Over, Turned, cart_few, known_kept, est_kept, trail_kept, trail_holds, begins, arrived, spent}
+use Rattle.walk.proofs.Going.{Over, Turned, cart_few, known_kept, est_kept, trail_kept, trail_holds, begins, arrived, spent}
 use Rattle.walk.proofs.Advancing.{accepts, turned}
 use Rattle.walk.proofs.Keeping.{promised}
 use Rattle.walk.proofs.run_walk.Goals.{Else-made-allowance, After-run_leg-leg, Joined-cell-goal, then-cell-goal, else-cell-goal+then-made-allowance, else-cell-goal+else-made-allowance+in-CutOff}
@@ -33,9 +30,9 @@ slice_bounds-run_leg-start c = omega (arith, unwritten (goal.at.slice_bounds-run
 
 pub run_leg-leg-requires : goal.run_leg-leg-requires
 run_leg-leg-requires c = record {
-      trail_value = accepts _ _ _ _ _ _ _ _ _ _ c.requires.trail_value _ _ _ _ c.loop-floor.invariant.0 c.if-cell-goal.false c.if-made-allowance.false _ c.leg_limit-most.ensures;
-      room_len = (c.loop-floor.invariant.1 ∙ c.requires.room_len.0, c.loop-floor.invariant.2);
-    }
+  trail_value = accepts _ _ _ _ _ _ _ _ _ _ c.requires.trail_value _ _ _ _ c.loop-floor.invariant.0 c.if-cell-goal.false c.if-made-allowance.false _ c.leg_limit-most.ensures;
+  room_len = (c.loop-floor.invariant.1 ∙ c.requires.room_len.0, c.loop-floor.invariant.2);
+}
 
 -- what the leg has made of the walk, by the tally after it
 abbrev After : After-run_leg-leg → Tally → Type 0
@@ -109,6 +106,6 @@ shape_of-room c = omega (arith, (found (goal.at.shape_of-room c).Joined-cell-goa
 
 pub returns : goal.returns
 returns c = record {
-      walk_promise = rw c.ended.ensures (promised _ _ _ _ _ _ _ _ _ _ c.requires.trail_value _ _ _ _ _ (found (goal.at.returns c).Joined-cell-goal).0);
-      clean = (found (goal.at.returns c).Joined-cell-goal).2;
-    }
+  walk_promise = rw c.ended.ensures (promised _ _ _ _ _ _ _ _ _ _ c.requires.trail_value _ _ _ _ _ (found (goal.at.returns c).Joined-cell-goal).0);
+  clean = (found (goal.at.returns c).Joined-cell-goal).2;
+}

@@ -1,25 +1,16 @@
 -- The walk's loop. Each leg is accepted where the last one left off, and makes of the walk what `Advancing.antt` says; each way out of the
 -- loop finds the walk over.
-use Prim.Native.Nat.{ℕ, ◌-◌, ◌≤◌}
-use mathlib.Core.Path.{◌≡◌, ◌∙◌, refl}
-use mathlib.Core.Logic.{◌⊎◌, inl, inr}
-use native.Mathlib.Omega.{arith}
+use Prim.Native.Nat.{◌-◌}
+use mathlib.Core.Path.{◌≡◌}
 use lib.ListN.{length}
-use borrow.Author.Rules.{rules}
-use borrow.Rule.Slice.PartMut.{put_mid}
-use Rattle.floor.specs.declared.Ending.TheVariants.{CutOff}
 use Rattle.room.specs.Layout.{Clean}
-use Rattle.walk.specs.declared.Tally.{Tally}
-use Rattle.walk.specs.Counting.{counted}
-use Rattle.walk.proofs.Going.{Going, Over, Turned, cart_few, known_kept, est_kept, trail_kept, trail_holds, begins, arrived, spent}
-use Rattle.walk.proofs.Advancing.{accepts, turned}
-use Rattle.walk.proofs.Keeping.{promised}
+use Rattle.walk.proofs.Going.{Going}
 use Rattle.walk.proofs.run_walk.Given as goal
 
 abbrev pub invariant-loop-floor : goal.invariant-loop-floor
-invariant-loop-floor l = 
+invariant-loop-floor l =
     Going l.floor l.plan l.initial.known l.initial.est l.cart l.goal l.look l.limit l.allowance l.initial.trail l.known l.est l.trail l.walked × (length l.room ≡ length l.initial.room) × Clean l.room
 
 abbrev pub decreases-loop-floor : goal.decreases-loop-floor
-decreases-loop-floor l = 
+decreases-loop-floor l =
     l.allowance - l.walked.moves

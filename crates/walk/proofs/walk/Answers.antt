@@ -1,12 +1,9 @@
 -- What `check` refuses is refused; what it passes is run in a room that is empty.
-use Prim.Native.Nat.{◌*◌, ◌≤◌}
 use mathlib.Core.Path.{◌≡◌}
 use mathlib.Core.Bool.{true}
 use native.Mathlib.Omega.{arith}
-use borrow.Author.Rules.{rules}
 use Rattle.floor.specs.Floor.{sizes_ok}
 use Rattle.refusals.specs.Given.{given}
-use Rattle.room.specs.Layout.{columns}
 use Rattle.room.proofs.Holding.{room_fits, room_ready}
 use Rattle.walk.proofs.Going.{tested}
 use Rattle.walk.proofs.Keeping.{refuses, passes}
@@ -32,9 +29,9 @@ slice_bounds-run_walk-end c = omega (arith, c.cells-n.ensures, (room_ready _ (si
 
 pub run_walk-done-requires : goal.run_walk-done-requires
 run_walk-done-requires c = record {
-      trail_value = passes _ _ _ _ _ _ _ _ _ _ _ c.check-refused.ensures c.if-refused-ne0.false;
-      room_len = room_ready _ (sized (goal.at.run_walk-done-requires c).Else-refused-ne0) _ c.cells-n.ensures _ c.new_room-room.ensures;
-    }
+  trail_value = passes _ _ _ _ _ _ _ _ _ _ _ c.check-refused.ensures c.if-refused-ne0.false;
+  room_len = room_ready _ (sized (goal.at.run_walk-done-requires c).Else-refused-ne0) _ c.cells-n.ensures _ c.new_room-room.ensures;
+}
 
 pub returns : goal.returns
 returns c = c.run_walk-done.ensures.walk_promise

@@ -8,8 +8,8 @@ use Rattle.floor.proofs.Headings.{north_off, north_on, west_off, west_on, east_o
 use Rattle.floor.proofs.Floor.neighbour.Goals.{Start}
 use Rattle.floor.proofs.Floor.neighbour.Goals as goal
 
-column-most : (c : Start) → c.args.cell % c.args.self.width ≤ c.args.cell
-column-most c = mod-le _ _
+column_most : (c : Start) → c.args.cell % c.args.self.width ≤ c.args.cell
+column_most c = mod-le _ _
 
 pub returns-then-cell-w : goal.returns-then-cell-w
 returns-then-cell-w c = rw c.in-North.is (sym (north_off _ _ (omega arith)))
@@ -45,13 +45,13 @@ pub nonzero_rem-column : goal.nonzero_rem-column
 nonzero_rem-column c = (sides _ c.requires.self_value).some_width
 
 pub overflow_cast-column-3 : goal.overflow_cast-column-3
-overflow_cast-column-3 c = omega (arith, column-most (goal.at.overflow_cast-column-3 c).Start)
+overflow_cast-column-3 c = omega (arith, column_most (goal.at.overflow_cast-column-3 c).Start)
 
 pub overflow_sub-result-in-West : goal.overflow_sub-result-in-West
-overflow_sub-result-in-West c = omega (arith, column-most (goal.at.overflow_sub-result-in-West c).Start)
+overflow_sub-result-in-West c = omega (arith, column_most (goal.at.overflow_sub-result-in-West c).Start)
 
 pub overflow_add-column : goal.overflow_add-column
-overflow_add-column c = omega (arith, area _ c.requires.self_value, column-most (goal.at.overflow_add-column c).Start)
+overflow_add-column c = omega (arith, area _ c.requires.self_value, column_most (goal.at.overflow_add-column c).Start)
 
 pub overflow_add-result : goal.overflow_add-result
 overflow_add-result c = omega (arith, area _ c.requires.self_value)
