@@ -6,7 +6,7 @@
 # these two stand, each a list of words that goes before a program, empty on x86-64 and elsewhere the kit's emulator:
 #
 #     "${x86_run[@]}" target/host            runs a program that was linked with -static
-#     "${kit_run[@]}" target/bin/trip        runs a program that rt linked: it needs the kit's loader and C library too
+#     "${kit_run[@]}" crates/trip/out/trip        runs a program that rt linked: it needs the kit's loader and C library too
 #
 # What this file says goes to standard error.
 
