@@ -262,9 +262,9 @@ module _ (allowance : ℕ) (r : Request) (ok : walk_refusal allowance r ≡ 0) (
   abbrev first : Cart
   first = record { cell = r.stand.cell; moves = 0; opened = 0; legs = 0 }
 
-  module _ (known est : List ℕ) (Known-is : take (cells f) known ≡ r.stand.known) (est_is : take (cells f) est ≡ r.stand.est) where
+  module _ (known est : List ℕ) (known_is : take (cells f) known ≡ r.stand.known) (est_is : take (cells f) est ≡ r.stand.est) where
     stood : stand_of first known est ≡ r.stand
-    stood = λ i. record { known = Known-is i; est = est_is i; cell = r.stand.cell }
+    stood = λ i. record { known = known_is i; est = est_is i; cell = r.stand.cell }
 
     starts : Along first known est
     starts = record {
