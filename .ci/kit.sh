@@ -5,8 +5,8 @@
 #
 # these two stand, each a list of words that goes before a program, empty on x86-64 and elsewhere the kit's emulator:
 #
-#     "${x86_run[@]}" target/host            runs a program that was linked with -static
-#     "${kit_run[@]}" crates/trip/out/trip        runs a program that rt linked: it needs the kit's loader and C library too
+#     "${x86_run[@]}" target/host              runs a program that was linked with -static
+#     "${kit_run[@]}" crates/trip/out/trip     runs a program that rt linked: it needs the kit's loader and C library too
 #
 # What this file says goes to standard error.
 
