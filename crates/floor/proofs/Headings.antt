@@ -8,41 +8,46 @@ use native.Mathlib.Nat.{div-add-mod', mod-lt, div-lt_iff_lt-mul}
 use lib.Dec.{ltb, eqb}
 use lib.Arith.{digits_div, digits_mod, digits_lt}
 use borrow.Author.Tests.{ltb-true, ltb-false, eqb-true, eqb-false, lt-ltb, le-ltb, eq-eqb, ne_eqb}
-use Rattle.floor.specs.Floor.{Floor, sizes_ok, cells, gap, manhattan, beside, Heading, North, West, East, South, Step, To, Edge, neighbour, leads_to}
+use Rattle.std.specs.Prelude.{Option, Some, None, SomeIff}
+use Rattle.floor.specs.Floor.{Floor, sizes_ok, cells, gap, manhattan, beside, Heading, North, West, East, South, neighbour, leads_to}
 use Rattle.floor.proofs.Tools.{both, clash, or_cases, or_1, or_2, same_test}
-use Rattle.floor.proofs.Grid.{sides, beside-right, one_step}
+use Rattle.floor.proofs.Geometry.{sides, beside-right, one_step}
 
 -- each heading by its test
 module _ (f : Floor) (c : ℕ) where
-  pub north_off : c < f.width → neighbour f c North ≡ Edge
+  pub north_off : c < f.width → neighbour f c North ≡ None
   unfolding neighbour
   north_off h = rw (lt-ltb _ _ h, neighbour)
 
-  pub north_on : f.width ≤ c → neighbour f c North ≡ To (c - f.width)
+  pub north_on : f.width ≤ c → neighbour f c North ≡ Some (c - f.width)
   unfolding neighbour
   north_on h = rw (le-ltb _ _ h, neighbour)
 
-  pub west_off : c % f.width ≡ 0 → neighbour f c West ≡ Edge
+  pub north_is : (to : Option ℕ) → SomeIff to (f.width ≤ c) (c - f.width) → to ≡ neighbour f c North
+  north_is None h = sym (north_off (omega (arith, h)))
+  north_is (Some x) h = ap Some h.1 ∙ sym (north_on h.0)
+
+  pub west_off : c % f.width ≡ 0 → neighbour f c West ≡ None
   unfolding neighbour
   west_off h = rw (eq-eqb _ _ h, neighbour)
 
-  pub west_on : (c % f.width ≡ 0 → ⊥) → neighbour f c West ≡ To (c - 1)
+  pub west_on : (c % f.width ≡ 0 → ⊥) → neighbour f c West ≡ Some (c - 1)
   unfolding neighbour
   west_on h = rw (ne_eqb _ _ h, neighbour)
 
-  pub east_off : c % f.width + 1 ≡ f.width → neighbour f c East ≡ Edge
+  pub east_off : c % f.width + 1 ≡ f.width → neighbour f c East ≡ None
   unfolding neighbour
   east_off h = rw (eq-eqb _ _ h, neighbour)
 
-  pub east_on : (c % f.width + 1 ≡ f.width → ⊥) → neighbour f c East ≡ To (c + 1)
+  pub east_on : (c % f.width + 1 ≡ f.width → ⊥) → neighbour f c East ≡ Some (c + 1)
   unfolding neighbour
   east_on h = rw (ne_eqb _ _ h, neighbour)
 
-  pub south_on : c + f.width < cells f → neighbour f c South ≡ To (c + f.width)
+  pub south_on : c + f.width < cells f → neighbour f c South ≡ Some (c + f.width)
   unfolding neighbour
   south_on h = rw (lt-ltb _ _ h, neighbour)
 
-  pub south_off : cells f ≤ c + f.width → neighbour f c South ≡ Edge
+  pub south_off : cells f ≤ c + f.width → neighbour f c South ≡ None
   unfolding neighbour
   south_off h = rw (le-ltb _ _ h, neighbour)
 
@@ -120,7 +125,7 @@ module _ (f : Floor) (a b : ℕ) (pos : 0 < f.width) where
       (column f.width (a / f.width) (a % f.width + 1) b l s))
 
   -- a heading leads to a cell that shares a side
-  pub leads : (h : Heading) → a < cells f → neighbour f a h ≡ To b → beside f a b ≡ true
+  pub leads : (h : Heading) → a < cells f → neighbour f a h ≡ Some b → beside f a b ≡ true
   leads North la e = elim (both (ltb a f.width)) [
     | inl t ↦ cc (north_off f a (ltb-true _ _ t))
     | inr t ↦ let l = ltb-false a f.width t in north la (a / f.width) refl l (cc (north_on f a l))
@@ -138,37 +143,37 @@ module _ (f : Floor) (a b : ℕ) (pos : 0 < f.width) where
     | inr t ↦ cc (south_off f a (ltb-false _ _ t))
   ]
 
-  heads : b < cells f → Way (a / f.width) (a % f.width) (b / f.width) (b % f.width) → (h : Heading) × (neighbour f a h ≡ To b)
+  heads : b < cells f → Way (a / f.width) (a % f.width) (b / f.width) (b % f.width) → (h : Heading) × (neighbour f a h ≡ Some b)
   heads lb (up q r) =
       let s : a ≡ b + f.width = omega (arith, rw q at (div-add-mod' a f.width), div-add-mod' b f.width) in
-      (North, north_on f a (omega arith) ∙ ap To (omega arith))
+      (North, north_on f a (omega arith) ∙ ap Some (omega arith))
   heads lb (down q r) =
       let s : b ≡ a + f.width = omega (arith, rw q at (div-add-mod' b f.width), div-add-mod' a f.width) in
-      (South, south_on f a (omega arith) ∙ ap To (omega arith))
+      (South, south_on f a (omega arith) ∙ ap Some (omega arith))
   heads lb (back q r) =
       let s : a ≡ b + 1 = omega (arith, rw q at (div-add-mod' a f.width), div-add-mod' b f.width) in
-      (West, west_on f a (omega arith) ∙ ap To (omega arith))
+      (West, west_on f a (omega arith) ∙ ap Some (omega arith))
   heads lb (on q r) =
       let s : b ≡ a + 1 = omega (arith, rw q at (div-add-mod' a f.width), div-add-mod' b f.width) in
-      (East, east_on f a (omega (arith, mod-lt b pos)) ∙ ap To (omega arith))
+      (East, east_on f a (omega (arith, mod-lt b pos)) ∙ ap Some (omega arith))
 
   -- and to each such cell one leads
-  pub led : beside f a b ≡ true → (h : Heading) × (neighbour f a h ≡ To b)
+  pub led : beside f a b ≡ true → (h : Heading) × (neighbour f a h ≡ Some b)
   unfolding manhattan
   led e = heads (beside-right f a b e) (ways _ _ _ _ (one_step f a b e))
 
 -- a heading that leads anywhere leads to a cell of the floor
-pub to_cell : (f : Floor) (c : ℕ) (h : Heading) (st : Step) → st ≡ neighbour f c h → (y : ℕ) → sizes_ok f ≡ true → c < cells f → st ≡ To y → y < cells f
+pub to_cell : (f : Floor) (c : ℕ) (h : Heading) (st : Option ℕ) → st ≡ neighbour f c h → (y : ℕ) → sizes_ok f ≡ true → c < cells f → st ≡ Some y → y < cells f
 to_cell f c h st is y s lt e = beside-right f c y (leads f c y (sides f s).some_width h lt (sym is ∙ e))
 
 -- ---- all four at once
 
-leads_is : (st : Step) (x : ℕ) → leads_to st x ≡ true → st ≡ To x
+leads_is : (st : Option ℕ) (x : ℕ) → leads_to st x ≡ true → st ≡ Some x
 unfolding leads_to
-leads_is (To y) x e = ap To (sym (eqb-true x y e))
-leads_is Edge x e = clash e refl
+leads_is (Some y) x e = ap Some (sym (eqb-true x y e))
+leads_is None x e = clash e refl
 
-is_leads : (st : Step) (x : ℕ) → st ≡ To x → leads_to st x ≡ true
+is_leads : (st : Option ℕ) (x : ℕ) → st ≡ Some x → leads_to st x ≡ true
 unfolding leads_to
 is_leads st x e = rw e (eq-eqb x x refl)
 

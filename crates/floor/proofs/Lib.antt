@@ -2,6 +2,6 @@
 pub mod Tools
 pub mod Refusing
 pub mod Boards
-pub mod Grid
+pub mod Geometry
 pub mod Headings
 pub mod Unique

@@ -1,10 +1,10 @@
 -- Document 01, "The floor", with lists read as pictures, how refusals are numbered, preparing, and the required figure
-use Rattle.std.specs.Prelude.{ℕ, zero, suc, ◌+◌, ◌-◌, ◌*◌, ◌/◌, ◌%◌}
+use Rattle.std.specs.Prelude.{ℕ, zero, suc, ◌+◌, ◌-◌, ◌*◌, ◌/◌, ◌%◌, Option, Some, None, Result, Ok, Err, IfOk}
 use mathlib.Core.{Path.◌≡◌, Bool.Bool, Bool.true, Bool.false, Bool.◌&&◌, List.List, List.[], List.◌∷◌}
 use lib.{Dec.ltb, Dec.leb, Dec.eqb, ListN.length, ListN.get_or}
-pub use Rattle.floor.specs.declared.{Floor.Floor, Heading.Heading, Step.Step, Figure.Figure}
+pub use Rattle.floor.specs.declared.{Floor.Floor, Heading.Heading, Refusal.Refusal}
 pub use Rattle.floor.specs.declared.Heading.TheVariants.{North, West, East, South}
-pub use Rattle.floor.specs.declared.{Step.TheVariants.To, Step.TheVariants.Edge, Figure.TheVariants.Moves, Figure.TheVariants.Refused}
+use Rattle.floor.specs.declared.Refusal.TheVariants.{Sizes, Lengths, Cells, Settings, Trail, Bytes, KnownMap, Blocked, Estimates, RecordSize, RecordValues, Serial}
 
 -- x is in 1 to m
 unfoldable pub up_to : ℕ → ℕ → Bool
@@ -31,16 +31,16 @@ unfoldable pub beside : Floor → ℕ → ℕ → Bool
 beside f a b = ltb a (cells f) && ltb b (cells f) && eqb (manhattan f a b) 1
 
 -- where a heading leads from the cell c
-unfoldable pub neighbour : Floor → ℕ → Heading → Step
-neighbour f c North = elim (ltb c f.width) [ true ↦ Edge | false ↦ To (c - f.width) ]
-neighbour f c West = elim (eqb (c % f.width) 0) [ true ↦ Edge | false ↦ To (c - 1) ]
-neighbour f c East = elim (eqb (c % f.width + 1) f.width) [ true ↦ Edge | false ↦ To (c + 1) ]
-neighbour f c South = elim (ltb (c + f.width) (cells f)) [ true ↦ To (c + f.width) | false ↦ Edge ]
+unfoldable pub neighbour : Floor → ℕ → Heading → Option ℕ
+neighbour f c North = elim (ltb c f.width) [ true ↦ None | false ↦ Some (c - f.width) ]
+neighbour f c West = elim (eqb (c % f.width) 0) [ true ↦ None | false ↦ Some (c - 1) ]
+neighbour f c East = elim (eqb (c % f.width + 1) f.width) [ true ↦ None | false ↦ Some (c + 1) ]
+neighbour f c South = elim (ltb (c + f.width) (cells f)) [ true ↦ Some (c + f.width) | false ↦ None ]
 
 -- a step leads to the cell x
-unfoldable pub leads_to : Step → ℕ → Bool
-leads_to (To y) x = eqb x y
-leads_to Edge x = false
+unfoldable pub leads_to : Option ℕ → ℕ → Bool
+leads_to (Some y) x = eqb x y
+leads_to None x = false
 
 -- what a caller lends is lists: a list is read as a picture, a function of the cell number, and a picture is written cell by cell
 unfoldable pub tabulate : ℕ → (ℕ → ℕ) → List ℕ
@@ -75,20 +75,35 @@ prepare_refusal f goal est = refusal ((1, sizes_ok f) ∷ (2, eqb (length est) (
 unfoldable pub prepared : Floor → ℕ → List ℕ
 prepared f goal = tabulate (cells f) (λ x. manhattan f x goal)
 
-pub record PreparePromise (f : Floor) (goal : ℕ) (est : List ℕ) (answer : ℕ) (est' : List ℕ) : Type 0 where
-  pub answers : answer ≡ prepare_refusal f goal est
-  pub writes : est' ≡ if_accepted answer (prepared f goal) est
+-- a refusal's number in the table, and an answer's: 0 where it is no refusal
+abbrev pub number : Refusal → ℕ
+number r = elim r [
+  | Sizes ↦ 1
+  | Lengths ↦ 2
+  | Cells ↦ 3
+  | Settings ↦ 4
+  | Trail ↦ 5
+  | Bytes ↦ 6
+  | KnownMap ↦ 7
+  | Blocked ↦ 8
+  | Estimates ↦ 9
+  | RecordSize ↦ 10
+  | RecordValues ↦ 11
+  | Serial ↦ 12
+]
+
+unfoldable pub refused : {A : Type 0} → Result A Refusal → ℕ
+refused (Ok done) = 0
+refused (Err r) = number r
+
+pub record PreparePromise (f : Floor) (goal : ℕ) (est : List ℕ) (answer : Result (Unit {0}) Refusal) (est' : List ℕ) : Type 0 where
+  pub answers : refused answer ≡ prepare_refusal f goal est
+  pub writes : est' ≡ if_accepted (prepare_refusal f goal est) (prepared f goal) est
 
 -- the required figure uses 1 and 3 (start or goal)
 unfoldable pub required_refusal : Floor → ℕ → ℕ → ℕ
 required_refusal f start goal = refusal ((1, sizes_ok f) ∷ (3, ltb start (cells f) && ltb goal (cells f)) ∷ [])
 
--- the paper's numbers of the answer: the refusal or 0, and the moves that the trip called for
-abbrev pub told : Figure → ℕ × ℕ
-told (Moves n) = (0, n)
-told (Refused n) = (n, 0)
-
-pub record RequiredPromise (f : Floor) (start goal : ℕ) (answer : Figure) : Type 0 where
-  pub answers : (told answer).0 ≡ required_refusal f start goal
-  pub figure : (told answer).1 ≡ if_accepted (required_refusal f start goal) (manhattan f start goal) 0
-  pub numbered : answer ≡ Refused 0 → ⊥  -- 0 is no refusal's number
+pub record RequiredPromise (f : Floor) (start goal : ℕ) (answer : Result ℕ Refusal) : Type 0 where
+  pub answers : refused answer ≡ required_refusal f start goal
+  pub figure : IfOk answer (λ moves. moves ≡ manhattan f start goal)

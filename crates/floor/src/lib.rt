@@ -2,11 +2,12 @@
 // the required figure.
 #![tactic(auto)]
 
-ghost use Rattle.std.specs.Prelude.{◌≡◌, true, ◌<◌, length};
-ghost use Rattle.floor.specs.Floor.{cells, gap, manhattan, neighbour, sizes_ok, PreparePromise, prepared, RequiredPromise};
+ghost use Rattle.std.specs.Prelude.{◌≡◌, true, false, ◌<◌, length, IfOk, IfErr};
+ghost use Rattle.floor.specs.declared.Refusal.TheVariants.{Sizes};
+ghost use Rattle.floor.specs.Floor.{cells, manhattan, neighbour, number, sizes_ok, up_to, PreparePromise, prepared, RequiredPromise};
 
-// One of the four ways to leave a cell.
-#[derive(Clone, Copy)]
+/// One of the four ways to leave a cell.
+#[derive(Clone, Copy, Debug, PartialEq, Eq)]
 pub enum Heading {
     North,
     West,
@@ -14,29 +15,8 @@ pub enum Heading {
     South,
 }
 
-// Where a heading leads: to a cell, or off the floor.
-#[derive(Clone, Copy)]
-pub enum Step {
-    To(usize),
-    Edge,
-}
-
-// A cell's distance from the cart in a search: known, or no way to it yet.
-#[derive(Clone, Copy)]
-pub enum Distance {
-    Reached(u16),
-    Unreached,
-}
-
-// The cell that a search takes next, with its distance from the cart; or none.
-#[derive(Clone, Copy)]
-pub enum Choice {
-    Nothing,
-    Take(usize, u16),
-}
-
-// How a leg or a walk ended: `Spent` is a walk's alone, `UnderWay` a leg's.
-#[derive(Clone, Copy)]
+/// How a leg or a walk ended: `Spent` is a walk's alone, `UnderWay` a leg's.
+#[derive(Clone, Copy, Debug, PartialEq, Eq)]
 pub enum Ending {
     Arrived,
     CutOff,
@@ -44,16 +24,73 @@ pub enum Ending {
     UnderWay,
 }
 
-// The two allowances of a leg are types of their own, so that neither can be handed over in the other's place: how many cells
-// it may open, and how many moves it may make.
-#[derive(Clone, Copy)]
+/// Why an entry refuses, in the order of the table's numbers, from 1 on.
+#[derive(Clone, Copy, Debug, PartialEq, Eq)]
+pub enum Refusal {
+    /// A side is not in 1 to `Floor::MAX_SIDE`.
+    Sizes,
+    /// Plan, known map or estimates are not as long as the floor has cells.
+    Lengths,
+    /// Cart, start or goal is no cell of the floor.
+    Cells,
+    /// Lookahead or move limit is not in 1 to 4,096.
+    Settings,
+    /// The trail is too short.
+    Trail,
+    /// A byte of plan or known map is above 1.
+    Bytes,
+    /// The known map is blocked where the plan is open.
+    KnownMap,
+    /// The cart is on a blocked cell.
+    Blocked,
+    /// The estimates are not sound.
+    Estimates,
+    /// What is lent for records is not of their size.
+    RecordSize,
+    /// A record's values break a rule, or there is no record of that number.
+    RecordValues,
+    /// A serial is not the one after the last.
+    Serial,
+}
+
+impl From<Refusal> for u8 {
+    ghost from_gives = { λ refusal n. n ≡ number refusal };
+
+    fn from(refusal: Refusal) -> u8 {
+        match refusal {
+            Refusal::Sizes => 1,
+            Refusal::Lengths => 2,
+            Refusal::Cells => 3,
+            Refusal::Settings => 4,
+            Refusal::Trail => 5,
+            Refusal::Bytes => 6,
+            Refusal::KnownMap => 7,
+            Refusal::Blocked => 8,
+            Refusal::Estimates => 9,
+            Refusal::RecordSize => 10,
+            Refusal::RecordValues => 11,
+            Refusal::Serial => 12,
+        }
+    }
+}
+
+/// The two allowances of a leg are types of their own, so that neither can be handed over in the other's place: how many cells
+/// it may open, and how many moves it may make.
+#[derive(Clone, Copy, Debug, PartialEq, Eq)]
 pub struct Lookahead(pub usize);
 
-#[derive(Clone, Copy)]
+#[derive(Clone, Copy, Debug, PartialEq, Eq)]
 pub struct MoveLimit(pub usize);
 
-// Any two numbers; only sizes that `sizes_hold` accepts are a floor's.
-#[derive(Clone, Copy)]
+/// The settings of a leg.
+#[derive(Clone, Copy, Debug, PartialEq, Eq)]
+pub struct Setting {
+    pub look: Lookahead,
+    pub limit: MoveLimit,
+}
+
+/// Any two numbers; only sizes that `sizes_hold` accepts are a grid's.
+#[derive(Clone, Copy, Debug, PartialEq, Eq)]
 pub struct Floor {
     pub width: usize,
     pub height: usize,
@@ -62,148 +99,119 @@ pub struct Floor {
 impl Floor {
     pub const MAX_SIDE: usize = 64;
 
-    pub const NORTH: Heading = Heading::North;
-
-    pub const WEST: Heading = Heading::West;
-
-    pub const EAST: Heading = Heading::East;
-
-    pub const SOUTH: Heading = Heading::South;
-
-    pub const HEADINGS: [Heading; 4] = [Floor::NORTH, Floor::WEST, Floor::EAST, Floor::SOUTH];
-
-    // Whether both sides are in 1 to MAX_SIDE, so that refusal 1 is not given.
+    /// Whether both sides are in 1 to `MAX_SIDE`.
     pub fn sizes_hold(self) -> bool
         ensures { result ≡ sizes_ok self }
     {
-        if self.width < 1 {
-            return false;
-        }
-        if Floor::MAX_SIDE < self.width {
-            return false;
-        }
-        if self.height < 1 {
-            return false;
-        }
-        self.height <= Floor::MAX_SIDE
+        is_side(self.width) && is_side(self.height)
     }
 
-    // N, the number of cells.
+    /// The grid of these sizes, or refusal 1.
+    pub fn grid(self) -> Result<Grid, Refusal>
+        ensures same { IfOk result (λ grid. grid.floor ≡ self) }
+        ensures refuses { IfErr result (λ refusal. (refusal ≡ Sizes) × (sizes_ok self ≡ false)) }
+    {
+        if self.sizes_hold() {
+            Ok(Grid { floor: self })
+        } else {
+            Err(Refusal::Sizes)
+        }
+    }
+}
+
+/// A floor whose sizes hold.
+#[derive(Clone, Copy, Debug)]
+pub struct Grid {
+    pub floor: Floor,
+    ghost sized: { sizes_ok floor ≡ true },
+}
+
+impl Grid {
+    /// N, the number of cells.
     pub fn cells(self) -> usize
-        requires { sizes_ok self ≡ true }
-        ensures { result ≡ cells self }
+        ensures { result ≡ cells self.floor }
     {
-        self.width * self.height
+        self.floor.width * self.floor.height
     }
 
-    // The cell that adjoins `cell` in a heading.
-    pub fn neighbour(self, cell: usize, heading: Heading) -> Step
-        requires self_value { sizes_ok self ≡ true }
-        requires cell_bound { cell < cells self }
-        ensures { result ≡ neighbour self cell heading }
+    /// The cell that adjoins `cell` in a heading, if there is one.
+    pub fn neighbour(self, cell: usize, heading: Heading) -> Option<usize>
+        requires { cell < cells self.floor }
+        ensures { result ≡ neighbour self.floor cell heading }
     {
-        let w = self.width;
+        let w = self.floor.width;
         let column = (cell as u32 % w as u32) as usize;
         match heading {
-            Heading::North => {
-                if cell < w {
-                    return Step::Edge;
-                }
-                Step::To(cell - w)
-            }
-            Heading::West => {
-                if column == 0 {
-                    return Step::Edge;
-                }
-                Step::To(cell - 1)
-            }
+            Heading::North => cell.checked_sub(w),
+            Heading::West => { if column == 0 { None } else { Some(cell - 1) } }
             Heading::East => {
                 if column + 1 == w {
-                    return Step::Edge;
+                    None
+                } else {
+                    Some(cell + 1)
                 }
-                Step::To(cell + 1)
             }
             Heading::South => {
                 if cell + w < self.cells() {
-                    return Step::To(cell + w);
+                    Some(cell + w)
+                } else {
+                    None
                 }
-                Step::Edge
             }
         }
     }
 
-    // Rows apart and columns apart.
+    /// Rows apart and columns apart.
     pub fn manhattan(self, a: usize, b: usize) -> u16
-        requires self_value { sizes_ok self ≡ true }
-        requires a_bound { (a < cells self) × (b < cells self) }
-        ensures { result ≡ manhattan self a b }
+        requires { (a < cells self.floor) × (b < cells self.floor) }
+        ensures { result ≡ manhattan self.floor a b }
     {
-        let w = self.width as u32;
-        let rows = apart(a as u32 / w, b as u32 / w);
-        let columns = apart(a as u32 % w, b as u32 % w);
+        let w = self.floor.width as u32;
+        let rows = (a as u32 / w).abs_diff(b as u32 / w);
+        let columns = (a as u32 % w).abs_diff(b as u32 % w);
         (rows + columns) as u16
     }
 }
 
-// The difference of two numbers, whichever is larger.
-fn apart(a: u32, b: u32) -> u32
-    ensures { result ≡ gap a b }
+// Whether a floor may be so wide or so high.
+fn is_side(n: usize) -> bool
+    ensures { result ≡ up_to 64 n }
 {
-    if a < b {
-        return b - a;
-    }
-    a - b
+    0 < n && n <= Floor::MAX_SIDE
 }
 
 // Writes each cell's distance to the goal.
-fn fill(floor: Floor, goal: usize, est: &mut [u16])
-    requires floor_value { sizes_ok floor ≡ true }
-    requires goal_bound { (goal < cells floor) × (length est.old ≡ cells floor) }
-    ensures { est.new ≡ prepared floor goal }
+fn fill(grid: Grid, goal: usize, est: &mut [u16])
+    requires { (goal < cells grid.floor) × (length est.old ≡ cells grid.floor) }
+    ensures { est.new ≡ prepared grid.floor goal }
 {
     for x in 0..est.len() {
-        est[x] = floor.manhattan(x, goal);
+        est[x] = grid.manhattan(x, goal);
     }
 }
 
-// Entry: prepares the estimates for trips to a goal. Answers 0, or the refusal's number with the estimates as they were.
-pub fn prepare(floor: Floor, goal: usize, est: &mut [u16]) -> u8
+/// Entry: prepares the estimates for trips to a goal. A refusal leaves them as they were.
+pub fn prepare(floor: Floor, goal: usize, est: &mut [u16]) -> Result<(), Refusal>
     ensures { PreparePromise floor goal est.old result est.new }
 {
-    if !floor.sizes_hold() {
-        return 1;
+    let grid = floor.grid()?;
+    if est.len() != grid.cells() {
+        return Err(Refusal::Lengths);
     }
-    let n = floor.cells();
-    if est.len() != n {
-        return 2;
+    if grid.cells() <= goal {
+        return Err(Refusal::Cells);
     }
-    if n <= goal {
-        return 3;
-    }
-    fill(floor, goal, est);
-    0
+    fill(grid, goal, est);
+    Ok(())
 }
 
-// What the entry `required` answers.
-#[derive(Clone, Copy)]
-pub enum Figure {
-    Moves(u16),
-    Refused(u8),
-}
-
-// Entry: the moves that a trip from start to goal calls for.
-pub fn required(floor: Floor, start: usize, goal: usize) -> Figure
+/// Entry: the moves that a trip from start to goal calls for.
+pub fn required(floor: Floor, start: usize, goal: usize) -> Result<u16, Refusal>
     ensures { RequiredPromise floor start goal result }
 {
-    if !floor.sizes_hold() {
-        return Figure::Refused(1);
+    let grid = floor.grid()?;
+    if grid.cells() <= start || grid.cells() <= goal {
+        return Err(Refusal::Cells);
     }
-    let n = floor.cells();
-    if n <= start {
-        return Figure::Refused(3);
-    }
-    if n <= goal {
-        return Figure::Refused(3);
-    }
-    Figure::Moves(floor.manhattan(start, goal))
+    Ok(grid.manhattan(start, goal))
 }

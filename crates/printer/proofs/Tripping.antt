@@ -13,7 +13,7 @@ use Rattle.floor.specs.declared.Ending.{Ending, TheVariants.Arrived, TheVariants
 use Rattle.floor.specs.Floor.{up_to, cells, tabulate, blocked, value_at}
 use Rattle.floor.proofs.Tools.{and_1, and_2}
 use Rattle.floor.proofs.Boards.{length-tabulate}
-use Rattle.floor.proofs.Grid.{up_most}
+use Rattle.floor.proofs.Geometry.{up_most}
 use Rattle.rules.specs.Leg.{Leg, Stand, leg_from, left}
 use Rattle.rules.specs.Walk.{Walk, standing, onward, capped, walking, walk}
 use Rattle.rules.specs.Printer.{leg_line, trip}

@@ -13,7 +13,7 @@ use Rattle.floor.specs.declared.{Floor.Floor, Heading.Heading, Step.TheVariants.
 use Rattle.floor.specs.declared.Heading.TheVariants.{North, West, East, South}
 use Rattle.floor.specs.Floor.{sizes_ok, cells, beside, neighbour}
 use Rattle.floor.proofs.Tools.{both, and_1, and_2, and_i, same_test}
-use Rattle.floor.proofs.Grid.{sides, beside-left, beside-right, beside-sym}
+use Rattle.floor.proofs.Geometry.{sides, beside-left, beside-right, beside-sym}
 use Rattle.floor.proofs.Headings.{north_off, north_on, west_off, west_on, east_off, east_on, south_on, south_off, leads, led}
 use Rattle.rules.specs.Sound.{every, near_ok, sound}
 use Rattle.theory.proofs.Soundness.{every_at, every_i}

@@ -13,7 +13,7 @@ use Rattle.rules.specs.Search.{Search}
 use Rattle.floor.specs.declared.Distance.TheVariants.{Reached}
 use Rattle.rules.specs.Leg.{route, barred}
 use Rattle.floor.proofs.Tools.{clash}
-use Rattle.floor.proofs.Grid.{beside-right}
+use Rattle.floor.proofs.Geometry.{beside-right}
 use Rattle.theory.proofs.Picks.{Least}
 use Rattle.theory.proofs.Seeks.{Sought}
 use Rattle.theory.proofs.Lifted.{ancestor, Lifted, hangs}

@@ -8,7 +8,7 @@ use Rattle.floor.specs.declared.Floor.{Floor}
 use Rattle.floor.specs.Floor.{up_to, cells, tabulate, byte, blocked, value_at}
 use Rattle.floor.proofs.Tools.{and_1, and_2, or_f1}
 use Rattle.floor.proofs.Boards.{length-tabulate, value_tabulate, blocked_tabulate, own_bytes}
-use Rattle.floor.proofs.Grid.{up_some}
+use Rattle.floor.proofs.Geometry.{up_some}
 use Rattle.rules.specs.Sound.{Route, here}
 use Rattle.rules.specs.Leg.{ours, Leg, Stand, Setting, leg_from, left}
 use Rattle.rules.specs.Request.{setting_ok}

@@ -12,7 +12,7 @@ use Rattle.floor.specs.declared.Choice.{TheVariants.Nothing}
 use Rattle.rules.specs.Search.{Search}
 use Rattle.floor.specs.declared.Distance.TheVariants.{Reached}
 use Rattle.floor.proofs.Tools.{clash}
-use Rattle.floor.proofs.Grid.{beside-right}
+use Rattle.floor.proofs.Geometry.{beside-right}
 use Rattle.theory.proofs.Picks.{Least, Best}
 use Rattle.theory.proofs.Seeks.{Sought}
 use Rattle.theory.proofs.Routes.{route_open, admissible}

@@ -3,7 +3,7 @@ use Prim.Native.Nat.{ℕ}
 use mathlib.Core.Path.{◌≡◌, refl}
 use mathlib.Core.Bool.{true, false}
 use Rattle.floor.specs.Floor.{blocked, value_at, prepared}
-use Rattle.floor.proofs.Grid.{sides}
+use Rattle.floor.proofs.Geometry.{sides}
 use Rattle.rules.specs.Leg.{Setting}
 use Rattle.rules.specs.Request.{Request, setting_ok, leg_refusal}
 use Rattle.theory.specs.Promise.{LegsKeep, Demand3}

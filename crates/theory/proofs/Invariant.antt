@@ -13,7 +13,7 @@ use Rattle.rules.specs.Search.{Search, falls, joins, opening}
 use Rattle.floor.specs.declared.Distance.{Distance}
 use Rattle.floor.specs.declared.Distance.TheVariants.{Unreached, Reached}
 use Rattle.floor.proofs.Tools.{both, clash, and_1, and_2, or_cases, or_1, or_2, not_t, refute}
-use Rattle.floor.proofs.Grid.{beside-right}
+use Rattle.floor.proofs.Geometry.{beside-right}
 use Rattle.theory.proofs.Picks.{Least, same}
 
 pub record Inv (f : Floor) (known : ℕ → Bool) (est : ℕ → ℕ) (cart : ℕ) (s : Search) : Type 0 where

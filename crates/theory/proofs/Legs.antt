@@ -9,7 +9,7 @@ use lib.ListN.{length}
 use borrow.Author.Tests.{ltb-true, ltb-false, eqb-true, eqb-false}
 use Rattle.floor.specs.declared.Floor.{Floor}
 use Rattle.floor.specs.Floor.{cells}
-use Rattle.floor.proofs.Grid.{beside-right}
+use Rattle.floor.proofs.Geometry.{beside-right}
 use Rattle.rules.specs.Sound.{Route, here, step}
 use Rattle.floor.specs.declared.Choice.{Choice, TheVariants.Nothing, TheVariants.Take}
 use Rattle.rules.specs.Search.{Search, start, pick, Found, seek}

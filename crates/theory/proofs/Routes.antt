@@ -8,7 +8,7 @@ use native.Mathlib.Numerals.{add-one}
 use Rattle.floor.specs.declared.Floor.{Floor}
 use Rattle.theory.proofs.Soundness.{Sound, Within}
 use Rattle.rules.specs.Sound.{Route, here, step}
-use Rattle.floor.proofs.Grid.{beside-left, beside-right, beside-sym}
+use Rattle.floor.proofs.Geometry.{beside-left, beside-right, beside-sym}
 
 module _ {f : Floor} {plan : ℕ → Bool} where
   pub route_open : {goal a n : ℕ} → Route f plan goal a n → plan a ≡ false

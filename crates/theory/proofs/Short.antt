@@ -11,7 +11,7 @@ use Rattle.floor.specs.declared.Floor.{Floor}
 use Rattle.floor.specs.Floor.{cells, beside}
 use Rattle.rules.specs.Sound.{Route, here, step}
 use Rattle.floor.proofs.Tools.{both, clash, or_1, or_f2}
-use Rattle.floor.proofs.Grid.{beside-right}
+use Rattle.floor.proofs.Geometry.{beside-right}
 use Rattle.theory.proofs.Routes.{route_open}
 
 -- the plan with a blocked as well

@@ -10,7 +10,7 @@ use Rattle.floor.specs.declared.Floor.{Floor}
 use Rattle.floor.specs.Floor.{cells, manhattan, beside, value_at, prepared}
 use Rattle.floor.proofs.Tools.{and_1, and_2, and_i, not_t, below_suc}
 use Rattle.floor.proofs.Boards.{value_tabulate}
-use Rattle.floor.proofs.Grid.{gap-self, gap-via, manhattan-lt, beside-left, beside-right, one_step}
+use Rattle.floor.proofs.Geometry.{gap-self, gap-via, manhattan-lt, beside-left, beside-right, one_step}
 use Rattle.rules.specs.Sound.{Route, every, within, near_ok, sound}
 
 pub every_at : (n : ℕ) (p : ℕ → Bool) → every n p ≡ true → (x : ℕ) → x < n → p x ≡ true

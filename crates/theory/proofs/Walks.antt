@@ -10,7 +10,7 @@ use borrow.Author.Tests.{eqb-true, eqb-false}
 use Rattle.floor.specs.declared.Floor.{Floor}
 use Rattle.floor.specs.Floor.{up_to, cells, blocked, value_at}
 use Rattle.floor.proofs.Tools.{and_1, and_2}
-use Rattle.floor.proofs.Grid.{up_most, within_up_to}
+use Rattle.floor.proofs.Geometry.{up_most, within_up_to}
 use Rattle.rules.specs.Sound.{Route}
 use Rattle.rules.specs.Leg.{ours, Leg, Stand, Setting, leg_from, left}
 use Rattle.floor.specs.declared.Ending.{Ending}

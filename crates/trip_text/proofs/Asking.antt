@@ -14,7 +14,7 @@ use Rattle.floor.specs.declared.Floor.{Floor}
 use Rattle.floor.specs.Floor.{sizes_ok, cells, tabulate, byte, blocked, value_at, prepared, refusal}
 use Rattle.floor.proofs.Tools.{both, clash, and_1, and_2, and_i, or_cases, not_t, same_test}
 use Rattle.floor.proofs.Boards.{length-tabulate, value_tabulate, blocked_tabulate}
-use Rattle.floor.proofs.Grid.{sides}
+use Rattle.floor.proofs.Geometry.{sides}
 use Rattle.rules.specs.Sound.{every, within, sound}
 use Rattle.rules.specs.Request.{Request, setting_ok, walk_refusal}
 use Rattle.rules.specs.Printer.{split, field, line_at, first_line_ok, asked, row_ok, rows_ok}

@@ -10,7 +10,7 @@ use borrow.Author.Tests.{eq-eqb, lt-ltb}
 use Rattle.trip_text.specs.Scan.{slice, index_of}
 use Rattle.floor.specs.Floor.{sizes_ok, cells, tabulate, byte, prepare_refusal, prepared, PreparePromise}
 use Rattle.floor.proofs.Boards.{length-tabulate}
-use Rattle.floor.proofs.Grid.{area}
+use Rattle.floor.proofs.Geometry.{area}
 use Rattle.floor.proofs.Refusing.{passes, passes_all, accepted_left}
 use Rattle.rules.specs.Printer.{asked}
 use Rattle.trip_text.specs.declared.{Errand.Errand, Heard.TheVariants.BadInput, Heard.TheVariants.Refused, Heard.TheVariants.Asked}

@@ -13,7 +13,7 @@ use borrow.Author.Tests.{ltb-true, ltb-false, eqb-true}
 use Rattle.trip_text.specs.Scan.{slice, index_after, index_of}
 use Rattle.floor.specs.Floor.{sizes_ok}
 use Rattle.floor.proofs.Tools.{both, and_1, and_2, refute}
-use Rattle.floor.proofs.Grid.{sides}
+use Rattle.floor.proofs.Geometry.{sides}
 use Rattle.rules.specs.Printer.{ascii, joined, split, is_number, word, field, first_line_ok, rows_ok, decimal, printed}
 use Rattle.theory.proofs.Soundness.{every_at}
 use Rattle.trip_text.specs.Parts.{in_place, line_ok}

@@ -7,7 +7,7 @@ use Rattle.floor.proofs.Boards.{Filled}
 use Rattle.floor.proofs.fill.Given as goal
 
 abbrev pub invariant-loop-x : goal.invariant-loop-x
-invariant-loop-x l = (length l.est ≡ cells l.floor) × Filled (λ y. manhattan l.floor y l.goal) l.x l.est
+invariant-loop-x l = (length l.est ≡ cells l.grid.floor) × Filled (λ y. manhattan l.grid.floor y l.goal) l.x l.est
 
 abbrev pub decreases-loop-x : goal.decreases-loop-x
 decreases-loop-x l = l.x-end - l.x

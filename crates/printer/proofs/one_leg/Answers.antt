@@ -2,7 +2,7 @@
 use Prim.Native.Nat.{◌≤◌}
 use native.Mathlib.Omega.{arith}
 use lib.ListN.{length-take}
-use Rattle.floor.proofs.Grid.{area}
+use Rattle.floor.proofs.Geometry.{area}
 use Rattle.printer.proofs.Making.{Hosting, hosting}
 use Rattle.printer.proofs.one_leg.Goals.{After-leg_for-hosted, Start}
 use Rattle.printer.proofs.one_leg.Goals as goal

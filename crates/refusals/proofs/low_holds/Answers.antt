@@ -1,7 +1,7 @@
 use mathlib.Core.Path.{refl, sym}
 use native.Mathlib.Omega.{arith}
 use Rattle.floor.specs.Floor.{value_at}
-use Rattle.floor.proofs.Grid.{sides, area}
+use Rattle.floor.proofs.Geometry.{sides, area}
 use Rattle.refusals.proofs.Adjoining.{first_row}
 use Rattle.refusals.proofs.Flags.{every_none, every_more, every_all}
 use Rattle.refusals.proofs.low_holds.Goals as goal

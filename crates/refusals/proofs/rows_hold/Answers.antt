@@ -1,5 +1,5 @@
 use native.Mathlib.Omega.{arith}
-use Rattle.floor.proofs.Grid.{sides}
+use Rattle.floor.proofs.Geometry.{sides}
 use Rattle.refusals.proofs.Flags.{every_none, every_more, every_all}
 use Rattle.refusals.proofs.Adjoining.{row_fits}
 use Rattle.refusals.proofs.rows_hold.Goals as goal

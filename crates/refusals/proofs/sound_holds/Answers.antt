@@ -1,7 +1,7 @@
 -- The goal's test, the bound's and the two passes are the rule.
 use native.Mathlib.Omega.{arith}
 use Rattle.floor.specs.Floor.{value_at}
-use Rattle.floor.proofs.Grid.{sides}
+use Rattle.floor.proofs.Geometry.{sides}
 use Rattle.refusals.proofs.Adjoining.{first_row, sound_passes}
 use Rattle.refusals.proofs.sound_holds.Goals as goal
 

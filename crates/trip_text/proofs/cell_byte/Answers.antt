@@ -1,7 +1,7 @@
 -- A cell's byte stands where lawful rows have it.
 use native.Mathlib.Omega.{arith}
 use Rattle.floor.specs.Floor.{cells}
-use Rattle.floor.proofs.Grid.{sides, area}
+use Rattle.floor.proofs.Geometry.{sides, area}
 use Rattle.trip_text.proofs.Rows.{below, cell_within, marked, unmarked}
 use Rattle.trip_text.proofs.cell_byte.Goals as goal
 

@@ -1,20 +1,12 @@
--- Whether the sizes hold: the code's four tests are the definition's, one after another.
-use borrow.Author.Tests.{le-leb, lt-leb}
-use Rattle.floor.specs.Floor.{sizes_ok, up_to}
+-- The sides are tested one after the other.
+use mathlib.Core.Path.{◌∙◌, sym}
+use Rattle.floor.specs.Floor.{sizes_ok}
 use Rattle.floor.proofs.Floor.sizes_hold.Goals as goal
 
-pub returns-then-self-lt1 : goal.returns-then-self-lt1
-unfolding sizes_ok up_to
-returns-then-self-lt1 c = rw (lt-leb _ _ c.if-self-lt1.true)
+pub returns-then-is_side : goal.returns-then-is_side
+unfolding sizes_ok
+returns-then-is_side c = rw (sym c.is_side.ensures ∙ c.if-is_side.true) c.is_side-then-is_side.ensures
 
-pub returns-then-self-gt-MAX_SIDE : goal.returns-then-self-gt-MAX_SIDE
-unfolding sizes_ok up_to
-returns-then-self-gt-MAX_SIDE c = rw (le-leb _ _ c.if-self-lt1.false, lt-leb _ _ c.if-self-gt-MAX_SIDE.true)
-
-pub returns-then-self-lt1-2 : goal.returns-then-self-lt1-2
-unfolding sizes_ok up_to
-returns-then-self-lt1-2 c = rw (le-leb _ _ c.if-self-lt1.false, le-leb _ _ c.if-self-gt-MAX_SIDE.false, lt-leb _ _ c.if-self-lt1-2.true)
-
-pub returns : goal.returns
-unfolding sizes_ok up_to
-returns c = rw (le-leb _ _ c.if-self-lt1.false, le-leb _ _ c.if-self-gt-MAX_SIDE.false, le-leb _ _ c.if-self-lt1-2.false)
+pub returns-else-is_side : goal.returns-else-is_side
+unfolding sizes_ok
+returns-else-is_side c = rw (sym c.is_side.ensures ∙ c.if-is_side.false) c.if-is_side.false
