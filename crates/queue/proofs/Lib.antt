@@ -1,4 +1,3 @@
-pub mod Reading
 pub mod Least
 pub mod Counting
 pub mod Sorting

@@ -1,6 +1,6 @@
 -- What the room shows after stores: into the lists nothing new, and at a cell that gets a way that it joined.
-use Rattle.std.specs.Prelude.{Some}
-use Prim.Native.Nat.{ℕ, zero, suc, ◌+◌, ◌-◌, ◌*◌, ◌≤◌, ◌<◌}
+use Rattle.std.specs.Prelude.{None, Some}
+use Prim.Native.Nat.{ℕ, zero, suc, ◌+◌, ◌-◌, ◌≤◌, ◌<◌}
 use mathlib.Core.Path.{◌≡◌, ◌∙◌, refl, sym, ap, ap₂, subst, fun_ext}
 use mathlib.Core.Logic.{inl, inr}
 use mathlib.Core.Bool.{Bool, true, false, not, ◌&&◌, ◌||◌}
@@ -9,13 +9,13 @@ use native.Mathlib.Omega.{arith}
 use native.Mathlib.Numerals.{add-one}
 use lib.Dec.{eqb, ltb}
 use lib.ListN.{length, set}
-use lib.Seq.{lt-length-set}
+use lib.Seq.{get_or-set_same, get_or-set_other}
 use borrow.Author.Tests.{eqb-true, eqb-false, eq-eqb, ne_eqb, lt-ltb}
+use Rattle.floor.specs.Floor.{value_at}
 use Rattle.floor.proofs.Tools.{both, clash, or_cases, or_1, or_2, and_2, not_t}
 use Rattle.rules.specs.Search.{Search}
-use Rattle.queue.specs.Room.{columns, distance_of, parent_of, column, among, opened_at, shown, leaving, joined}
+use Rattle.queue.specs.Room.{Way, Room, way_at, nearness_at, parent_at, distance_of, parent_of, among, opened_at, shown, leaving, joined}
 use Rattle.queue.specs.Queue.{Sum, Front, Stands}
-use Rattle.queue.proofs.Reading.{stored, beyond, apart}
 use Rattle.queue.proofs.Growing.{Joined}
 
 -- ---- whether a cell is listed
@@ -42,6 +42,15 @@ stands_among l (suc m) x k lt e = elim (both (eqb k m)) [
 ]
 
 -- ---- what a cell's way says
+
+pub no_way : (v : ℕ) → v ≡ 0 → None ≡ distance_of v
+unfolding distance_of
+no_way v e = rw e
+
+pub some_way : (v : ℕ) → (v ≡ 0 → ⊥) → Some (65535 - v) ≡ distance_of v
+unfolding distance_of
+some_way zero n = absurd (n refl)
+some_way (suc v) n = refl
 
 pub way_of : (g : ℕ) → g < 65535 → distance_of (65535 - g) ≡ Some g
 unfolding distance_of
@@ -77,41 +86,38 @@ unfolding distance_of
 shorter zero g h lt e = let z : ◌≡◌ {A = ℕ} 0 1 = cc in absurd (omega arith)
 shorter (suc v) g h lt e = let z : 65535 - suc v ≡ h = cc in omega arith
 
-module _ (n : ℕ) (room : List ℕ) (m : ℕ) where
+module _ (n : ℕ) (room : Room) (m : ℕ) where
   -- a cell with a way that is not opened is in the frontier
   pub waits : {est : ℕ → ℕ} {x f : ℕ} → Sum (shown n room m) est x f → (shown n room m).opened x ≡ false → Front (shown n room m) est x f
   unfolding shown
-  waits {est} {x} {f} p o = record { waits = rw (lt-ltb 0 (column 0 room x) (some (column 0 room x) p.g p.reached), o); sum = p }
+  waits {est} {x} {f} p o = record { waits = rw (lt-ltb 0 ((nearness_at room.ways x)) (some ((nearness_at room.ways x)) p.g p.reached), o); sum = p }
 
   pub shut : (x : ℕ) → (shown n room m).front x ≡ true → (shown n room m).opened x ≡ false
   unfolding shown
-  shut x w = not_t (among (opened_at n room) m x) (and_2 (ltb 0 (column 0 room x)) (not (among (opened_at n room) m x)) w)
+  shut x w = not_t (among (opened_at n room.stack) m x) (and_2 (ltb 0 ((nearness_at room.ways x))) (not (among (opened_at n room.stack) m x)) w)
 
-  -- a room with the same ways, parents and cells opened shows the same
-  pub shown_same : (room' : List ℕ) → ((x : ℕ) → column 0 room' x ≡ column 0 room x) → ((x : ℕ) → column 1 room' x ≡ column 1 room x)
-      → ((i : ℕ) → i < m → opened_at n room' i ≡ opened_at n room i) → shown n room' m ≡ shown n room m
+  -- a room with the same ways and cells opened shows the same
+  pub shown_same : (stack rest : List ℕ) → ((i : ℕ) → i < m → opened_at n stack i ≡ opened_at n room.stack i)
+      → shown n (record { ways = room.ways; stack = stack; rest = rest }) m ≡ shown n room m
   unfolding shown
-  shown_same room' w p o = λ t. record {
-    dist = fun_ext (λ x. ap distance_of (w x)) t;
-    parent = fun_ext (λ x. ap₂ parent_of (w x) (p x)) t;
-    front = fun_ext (λ x. ap₂ (λ (v : ℕ) (b : Bool). ltb 0 v && not b) (w x) (among_same (opened_at n room') (opened_at n room) m x o)) t;
-    opened = fun_ext (λ x. among_same (opened_at n room') (opened_at n room) m x o) t;
+  shown_same stack rest o = λ t. record {
+    dist = λ x. distance_of (nearness_at room.ways x);
+    parent = λ x. parent_of (nearness_at room.ways x) (parent_at room.ways x);
+    front = fun_ext (λ x. ap (λ (b : Bool). ltb 0 (nearness_at room.ways x) && not b) (among_same (opened_at n stack) (opened_at n room.stack) m x o)) t;
+    opened = fun_ext (λ x. among_same (opened_at n stack) (opened_at n room.stack) m x o) t;
   }
 
 -- a store into the stack leaves the cells opened
-pub opened_kept : (n : ℕ) (room : List ℕ) (m k v i : ℕ) → m + k < n → i < m → opened_at n (set room (k * columns + 2) v) i ≡ opened_at n room i
-unfolding opened_at
-opened_kept n room m k v i fits lt = beyond room k 2 v (n - 1 - i) (omega arith)
+pub opened_kept : (n : ℕ) (stack : List ℕ) (m k v i : ℕ) → m + k < n → i < m → opened_at n (set stack k v) i ≡ opened_at n stack i
+unfolding opened_at value_at
+opened_kept n stack m k v i fits lt = get_or-set_other stack k (n - 1 - i) v 0 (omega arith)
 
-pub stack_aside : (n : ℕ) (room : List ℕ) (m k v : ℕ) → m + k < n → shown n (set room (k * columns + 2) v) m ≡ shown n room m
-stack_aside n room m k v fits = shown_same n room m (set room (k * columns + 2) v) (apart room k 2 v 0 (omega arith) (omega arith) (omega arith)) (apart room k 2 v 1 (omega arith) (omega arith) (omega arith)) (λ i lt. opened_kept n room m k v i fits lt)
+pub stack_aside : (n : ℕ) (room : Room) (m k v : ℕ) (rest : List ℕ) → m + k < n → shown n (record { ways = room.ways; stack = set room.stack k v; rest = rest }) m ≡ shown n room m
+stack_aside n room m k v rest fits = shown_same n room m (set room.stack k v) rest (λ i lt. opened_kept n room.stack m k v i fits lt)
 
-pub rest_opened : (n : ℕ) (room : List ℕ) (k v i : ℕ) → opened_at n (set room (k * columns + 3) v) i ≡ opened_at n room i
-unfolding opened_at
-rest_opened n room k v i = apart room k 3 v 2 (omega arith) (omega arith) (omega arith) (n - 1 - i)
-
-pub rest_aside : (n : ℕ) (room : List ℕ) (m k v : ℕ) → shown n (set room (k * columns + 3) v) m ≡ shown n room m
-rest_aside n room m k v = shown_same n room m (set room (k * columns + 3) v) (apart room k 3 v 0 (omega arith) (omega arith) (omega arith)) (apart room k 3 v 1 (omega arith) (omega arith) (omega arith)) (λ i lt. rest_opened n room k v i)
+pub rest_aside : (n : ℕ) (room : Room) (m : ℕ) (rest : List ℕ) → shown n (record { ways = room.ways; stack = room.stack; rest = rest }) m ≡ shown n room m
+unfolding shown
+rest_aside n room m rest = refl
 
 -- ---- two states that agree at each cell
 
@@ -135,33 +141,14 @@ by_cell s t y here off = λ i. record {
       | inr e ↦ off x (eqb-false x y e)
     ]
 
--- ---- a way and a parent stored at a cell
+-- ---- a way stored at a cell
 
-abbrev pub wayed : List ℕ → ℕ → ℕ → ℕ → List ℕ
-wayed room y v p = set (set room (y * columns + 0) v) (y * columns + 1) p
+module _ (ways : List Way) (y : ℕ) (way : Way) where
+  pub way_off : (x : ℕ) → (x ≡ y → ⊥) → way_at (set ways y way) x ≡ way_at ways x
+  way_off x ne = get_or-set_other ways y x way (record { nearness = 0; parent = 0 }) ne
 
-module _ (room : List ℕ) (y v p : ℕ) where
-  pub wayed_off : (j x : ℕ) → j < 2 → (x ≡ y → ⊥) → column j (wayed room y v p) x ≡ column j room x
-  wayed_off j x lt ne = elim (both (eqb j 0)) [
-    | inl e ↦ rw (eqb-true j 0 e) (apart (set room (y * columns + 0) v) y 1 p 0 (omega arith) (omega arith) (omega arith) x ∙ beyond room y 0 v x ne)
-    | inr e ↦ one (omega (arith, eqb-false j 0 e))
-  ]
-    where
-      one : j ≡ 1 → column j (wayed room y v p) x ≡ column j room x
-      one e = rw e (beyond (set room (y * columns + 0) v) y 1 p x ne ∙ apart room y 0 v 1 (omega arith) (omega arith) (omega arith) x)
-
-  pub wayed_lists : (j x : ℕ) → 2 ≤ j → j < columns → column j (wayed room y v p) x ≡ column j room x
-  wayed_lists j x le lt = apart (set room (y * columns + 0) v) y 1 p j lt (omega arith) (omega arith) x ∙ apart room y 0 v j lt (omega arith) (omega arith) x
-
-  pub wayed_way : y * columns + 3 < length room → column 0 (wayed room y v p) y ≡ v
-  wayed_way lt = apart (set room (y * columns + 0) v) y 1 p 0 (omega arith) (omega arith) (omega arith) y ∙ stored room y 0 v (omega arith)
-
-  pub wayed_parent : y * columns + 3 < length room → column 1 (wayed room y v p) y ≡ p
-  wayed_parent lt = stored (set room (y * columns + 0) v) y 1 p (lt-length-set room (y * columns + 0) v (omega arith))
-
-pub wayed_opened : (n : ℕ) (room : List ℕ) (y v p i : ℕ) → opened_at n (wayed room y v p) i ≡ opened_at n room i
-unfolding opened_at
-wayed_opened n room y v p i = wayed_lists room y v p 2 (n - 1 - i) (omega arith) (omega arith)
+  pub way_here : y < length ways → way_at (set ways y way) y ≡ way
+  way_here lt = get_or-set_same ways y way (record { nearness = 0; parent = 0 }) lt
 
 -- ---- the cell y joins, with c as parent
 
@@ -178,27 +165,33 @@ module _ (s : Search) (c g y : ℕ) where
   unfolding joined
   joined_opened x = refl
 
-module _ (n : ℕ) (room : List ℕ) (m c g y : ℕ) (lt : y * columns + 3 < length room) (few : g < 65535) (o : (shown n room m).opened y ≡ false) where
-  pub joins : shown n (wayed room y (65535 - g) c) m ≡ joined c g y (shown n room m)
+module _ (n : ℕ) (room : Room) (m c g y : ℕ) (lt : y < length room.ways) (few : g < 65535) (o : (shown n room m).opened y ≡ false) where
+  abbrev pub wayed : List Way
+  wayed = set room.ways y (record { nearness = 65535 - g; parent = c })
+
+  here : way_at wayed y ≡ record { nearness = 65535 - g; parent = c }
+  here = way_here room.ways y (record { nearness = 65535 - g; parent = c }) lt
+
+  off : (x : ℕ) → (x ≡ y → ⊥) → way_at wayed x ≡ way_at room.ways x
+  off = way_off room.ways y (record { nearness = 65535 - g; parent = c })
+
+  pub joins : shown n (record { ways = wayed; stack = room.stack; rest = room.rest }) m ≡ joined c g y (shown n room m)
   unfolding shown
-  joins = by_cell (shown n (wayed room y (65535 - g) c) m) (joined c g y (shown n room m)) y
+  joins = by_cell (shown n (record { ways = wayed; stack = room.stack; rest = room.rest }) m) (joined c g y (shown n room m)) y
       (let (d, p, f) = joined_here (shown n room m) c g y in record {
-        dist = ap distance_of (wayed_way room y (65535 - g) c lt) ∙ way_of g few ∙ sym d;
-        parent = rw (wayed_way room y (65535 - g) c lt, wayed_parent room y (65535 - g) c lt, parent_of_way (65535 - g) c (omega arith)) (sym p);
-        front = rw (wayed_way room y (65535 - g) c lt, same_list y, o, lt-ltb 0 (65535 - g) (omega arith)) (sym f);
-        opened = same_list y ∙ sym (joined_opened (shown n room m) c g y y);
+        dist = ap (λ (way : Way). distance_of way.nearness) here ∙ way_of g few ∙ sym d;
+        parent = ap (λ (way : Way). parent_of way.nearness way.parent) here ∙ parent_of_way (65535 - g) c (omega arith) ∙ sym p;
+        front = ap (λ (way : Way). ltb 0 way.nearness && not (among (opened_at n room.stack) m y)) here ∙ rw (o, lt-ltb 0 (65535 - g) (omega arith)) (sym f);
+        opened = sym (joined_opened (shown n room m) c g y y);
       })
       (λ x ne. let (d, p, f) = joined_else (shown n room m) c g y x ne in record {
-        dist = ap distance_of (wayed_off room y (65535 - g) c 0 x (omega arith) ne) ∙ sym d;
-        parent = ap₂ parent_of (wayed_off room y (65535 - g) c 0 x (omega arith) ne) (wayed_off room y (65535 - g) c 1 x (omega arith) ne) ∙ sym p;
-        front = ap₂ (λ (v : ℕ) (b : Bool). ltb 0 v && not b) (wayed_off room y (65535 - g) c 0 x (omega arith) ne) (same_list x) ∙ sym f;
-        opened = same_list x ∙ sym (joined_opened (shown n room m) c g y x);
+        dist = ap (λ (way : Way). distance_of way.nearness) (off x ne) ∙ sym d;
+        parent = ap (λ (way : Way). parent_of way.nearness way.parent) (off x ne) ∙ sym p;
+        front = ap (λ (way : Way). ltb 0 way.nearness && not (among (opened_at n room.stack) m x)) (off x ne) ∙ sym f;
+        opened = sym (joined_opened (shown n room m) c g y x);
       })
-    where
-      same_list : (x : ℕ) → among (opened_at n (wayed room y (65535 - g) c)) m x ≡ among (opened_at n room) m x
-      same_list x = among_same (opened_at n (wayed room y (65535 - g) c)) (opened_at n room) m x (λ i l. wayed_opened n room y (65535 - g) c i)
 
-  pub joined_of : (s' : Search) → s' ≡ joined c g y (shown n room m) → column 0 room y < 65535 - g → Joined (shown n room m) s' y g
+  pub joined_of : (s' : Search) → s' ≡ joined c g y (shown n room m) → nearness_at room.ways y < 65535 - g → Joined (shown n room m) s' y g
   unfolding shown
   joined_of s' e less = rw e (record {
     here = (joined_here (shown n room m) c g y).0;
@@ -207,44 +200,41 @@ module _ (n : ℕ) (room : List ℕ) (m c g y : ℕ) (lt : y * columns + 3 < len
     front_off = λ x ne. (joined_else (shown n room m) c g y x ne).2;
     opened = λ x. joined_opened (shown n room m) c g y x;
     shut = o;
-    falls = λ h d. shorter (column 0 room y) g h less d;
+    falls = λ h d. shorter (nearness_at room.ways y) g h less d;
   })
 
 -- ---- a cell is listed as opened
 
-module _ (n : ℕ) (room : List ℕ) (m c : ℕ) (fits : m < n) (long : (n - 1 - m) * columns + 2 < length room) where
-  abbrev listed : List ℕ
-  listed = set room ((n - 1 - m) * columns + 2) c
+module _ (n : ℕ) (stack : List ℕ) (m c : ℕ) (fits : m < n) (long : n - 1 - m < length stack) where
+  abbrev pub listed : List ℕ
+  listed = set stack (n - 1 - m) c
 
   pub opened_last : opened_at n listed m ≡ c
-  unfolding opened_at
-  opened_last = stored room (n - 1 - m) 2 c long
+  unfolding opened_at value_at
+  opened_last = get_or-set_same stack (n - 1 - m) c 0 long
 
-  pub opened_before : (i : ℕ) → i < m → opened_at n listed i ≡ opened_at n room i
-  unfolding opened_at
-  opened_before i lt = beyond room (n - 1 - m) 2 c (n - 1 - i) (omega arith)
+  pub opened_before : (i : ℕ) → i < m → opened_at n listed i ≡ opened_at n stack i
+  unfolding opened_at value_at
+  opened_before i lt = get_or-set_other stack (n - 1 - m) (n - 1 - i) c 0 (omega arith)
 
-  pub opened_more : (x : ℕ) → among (opened_at n listed) (m + 1) x ≡ (eqb x c || among (opened_at n room) m x)
+  pub opened_more : (x : ℕ) → among (opened_at n listed) (m + 1) x ≡ (eqb x c || among (opened_at n stack) m x)
   unfolding among
-  opened_more x = rw (add-one m) (ap₂ (λ (a b : Bool). a || b) (ap (eqb x) opened_last) (among_same (opened_at n listed) (opened_at n room) m x opened_before))
+  opened_more x = rw (add-one m) (ap₂ (λ (a b : Bool). a || b) (ap (eqb x) opened_last) (among_same (opened_at n listed) (opened_at n stack) m x opened_before))
 
 -- ---- the top of the stack is listed as opened, and leaves
 
-pub leaves : (n : ℕ) (room : List ℕ) (m c : ℕ) → m < n → (n - 1 - m) * columns + 2 < length room → (shown n room m).front c ≡ true
-    → shown n (set room ((n - 1 - m) * columns + 2) c) (m + 1) ≡ leaving c (shown n room m)
+pub leaves : (n : ℕ) (room : Room) (m c : ℕ) → m < n → n - 1 - m < length room.stack
+    → shown n (record { ways = room.ways; stack = set room.stack (n - 1 - m) c; rest = room.rest }) (m + 1) ≡ leaving c (shown n room m)
 unfolding shown leaving
-leaves n room m c fits long waits = λ t. record {
-  dist = fun_ext (λ x. ap distance_of (same_column 0 (omega arith) (omega arith) x)) t;
-  parent = fun_ext (λ x. ap₂ parent_of (same_column 0 (omega arith) (omega arith) x) (same_column 1 (omega arith) (omega arith) x)) t;
-  front = fun_ext (λ x. ap₂ (λ (v : ℕ) (b : Bool). ltb 0 v && not b) (same_column 0 (omega arith) (omega arith) x) (one_more x) ∙ either (ltb 0 (column 0 room x)) (eqb x c) (among (opened_at n room) m x)) t;
+leaves n room m c fits long = λ t. record {
+  dist = λ x. distance_of (nearness_at room.ways x);
+  parent = λ x. parent_of (nearness_at room.ways x) (parent_at room.ways x);
+  front = fun_ext (λ x. ap (λ (b : Bool). ltb 0 (nearness_at room.ways x) && not b) (one_more x) ∙ either (ltb 0 (nearness_at room.ways x)) (eqb x c) (among (opened_at n room.stack) m x)) t;
   opened = fun_ext one_more t;
 }
   where
-    same_column : (j : ℕ) → j < columns → (j ≡ 2 → ⊥) → (x : ℕ) → column j (set room ((n - 1 - m) * columns + 2) c) x ≡ column j room x
-    same_column j lt ne x = apart room (n - 1 - m) 2 c j lt (omega arith) ne x
-
-    one_more : (x : ℕ) → among (opened_at n (set room ((n - 1 - m) * columns + 2) c)) (m + 1) x ≡ (eqb x c || among (opened_at n room) m x)
-    one_more x = opened_more n room m c fits long x
+    one_more : (x : ℕ) → among (opened_at n (set room.stack (n - 1 - m) c)) (m + 1) x ≡ (eqb x c || among (opened_at n room.stack) m x)
+    one_more x = opened_more n room.stack m c fits long x
 
     either : (v e o : Bool) → (v && not (e || o)) ≡ ((v && not o) && not e)
     either true true true = refl

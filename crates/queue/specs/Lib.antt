@@ -1,2 +1,3 @@
+pub mod Board
 pub mod Room
 pub mod Queue

@@ -1,17 +1,12 @@
 -- The search that the working room shows.
-use Rattle.std.specs.Prelude.{ℕ, zero, suc, ◌-◌, ◌*◌, ◌≤◌, Option, Some, None}
-use mathlib.Core.{Path.◌≡◌, Bool.Bool, Bool.true, Bool.false, Bool.not, Bool.◌&&◌, Bool.◌||◌, List.List}
-use lib.{Dec.eqb, Dec.ltb, ListN.length}
-use Rattle.floor.specs.{declared.Floor.Floor, Floor.cells}
+use Rattle.std.specs.Prelude.{ℕ, zero, suc, ◌-◌, Option, Some, None}
+use mathlib.Core.{Bool.Bool, Bool.true, Bool.false, Bool.not, Bool.◌&&◌, Bool.◌||◌, List.List}
+use lib.{Dec.eqb, Dec.ltb}
+use Rattle.floor.specs.Floor.{value_at}
 use Rattle.rules.specs.Search.{Search}
-pub use Rattle.room.specs.Layout.{columns, Holds}
-unfoldable pub use Rattle.room.specs.Layout.{column, route_from, Clean}
-
--- what is asked of a list of the floor's cells, known map or estimates, and of the room
-pub record Room (f : Floor) (board room : List ℕ) : Type 0 where
-  pub few : cells f ≤ 4096
-  pub board_long : length board ≡ cells f
-  pub room_long : length room ≡ cells f * columns
+pub use Rattle.room.specs.declared.{Way.Way, Room.Room}
+pub use Rattle.room.specs.Layout.{way_at, nearness_at, parent_at, route_in, Holds}
+unfoldable pub use Rattle.room.specs.Layout.{Clean}
 
 -- the distance and the parent that a way stands for
 unfoldable pub distance_of : ℕ → Option ℕ
@@ -27,17 +22,17 @@ unfoldable pub among : (ℕ → ℕ) → ℕ → ℕ → Bool
 among list zero x = false
 among list (suc m) x = eqb x (list m) || among list m x
 
--- the i-th cell opened: the first stands at the last place, the others before it
+-- the i-th cell opened on a floor of n cells: the first stands at the last place of the stack's list, the others before it
 unfoldable pub opened_at : ℕ → List ℕ → ℕ → ℕ
-opened_at n room i = column 2 room (n - 1 - i)
+opened_at n stack i = value_at stack (n - 1 - i)
 
--- the search that the room of n cells shows, m of them opened: a cell that has a way and isn't opened is in the frontier
-unfoldable pub shown : ℕ → List ℕ → ℕ → Search
+-- the search that the room shows on a floor of n cells, m of them opened: a cell that has a way and isn't opened is in the frontier
+unfoldable pub shown : ℕ → Room → ℕ → Search
 shown n room m = record {
-  dist = λ x. distance_of (column 0 room x);
-  parent = λ x. parent_of (column 0 room x) (column 1 room x);
-  front = λ x. ltb 0 (column 0 room x) && not (among (opened_at n room) m x);
-  opened = among (opened_at n room) m;
+  dist = λ x. distance_of (nearness_at room.ways x);
+  parent = λ x. parent_of (nearness_at room.ways x) (parent_at room.ways x);
+  front = λ x. ltb 0 (nearness_at room.ways x) && not (among (opened_at n room.stack) m x);
+  opened = among (opened_at n room.stack) m;
 }
 
 -- c leaves the frontier, opened
