@@ -185,8 +185,8 @@ fn fill(grid: Grid, goal: usize, est: &mut [u16])
     requires { (goal < cells grid.floor) × (length est.old ≡ cells grid.floor) }
     ensures { est.new ≡ prepared grid.floor goal }
 {
-    for x in 0..est.len() {
-        est[x] = grid.manhattan(x, goal);
+    for (cell, estimate) in est.iter_mut().enumerate() {
+        *estimate = grid.manhattan(cell, goal);
     }
 }
 
