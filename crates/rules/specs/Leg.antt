@@ -1,19 +1,19 @@
 -- Document 01, "One leg": steps a to g, first over pictures of the floor, then over the lists that are lent.
-use Rattle.std.specs.Prelude.{ℕ, zero, suc, ◌+◌, ◌-◌, ltb, eqb}
+use Rattle.std.specs.Prelude.{ℕ, zero, suc, ◌+◌, ◌-◌, ltb, eqb, Option, Some, None}
 use mathlib.Core.{Bool.Bool, Bool.true, Bool.false, Bool.◌&&◌, Bool.◌||◌, List.List, List.[], List.◌∷◌}
 use Rattle.floor.specs.{declared.Floor.Floor, Floor.cells, Floor.beside, Floor.tabulate, Floor.byte, Floor.blocked, Floor.value_at}
 pub use Rattle.floor.specs.declared.Ending.{Ending, TheVariants.Arrived, TheVariants.CutOff, TheVariants.Spent, TheVariants.UnderWay}
-use Rattle.rules.specs.{Search.Distance, Search.Unreached, Search.Reached, Search.Choice, Search.Nothing, Search.Take, Search.Search, Search.start, Search.Found, Search.seek}
+use Rattle.rules.specs.{Search.Search, Search.start, Search.Found, Search.seek}
 
 -- b: each adjoining cell blocked in the plan becomes blocked in the known map
 unfoldable pub sense : Floor → (ℕ → Bool) → ℕ → (ℕ → Bool) → ℕ → Bool
 sense f plan cart known x = known x || (beside f cart x && plan x)
 
 -- e: each opened cell's estimate becomes F minus its g; no other changes
-unfoldable pub lifted : ℕ → Bool → Distance → ℕ → ℕ
+unfoldable pub lifted : ℕ → Bool → Option ℕ → ℕ → ℕ
 lifted F false d e = e
-lifted F true Unreached e = e
-lifted F true (Reached g) e = F - g
+lifted F true None e = e
+lifted F true (Some g) e = F - g
 
 unfoldable pub raise : ℕ → Search → (ℕ → ℕ) → ℕ → ℕ
 raise F s est x = lifted F (s.opened x) (s.dist x) (est x)
@@ -81,9 +81,9 @@ driven cart goal n est d =
     record { ending = ended c goal; cell = c; trail = d.made; opened = n; known = d.seen; est = est }
 
 -- d: no target, or F greater than N-1: cut off; otherwise e and f
-unfoldable pub followed : Manner → Floor → (ℕ → Bool) → (ℕ → Bool) → (ℕ → ℕ) → ℕ → ℕ → ℕ → Found → Choice → Leg
-followed m f plan known est cart goal limit r Nothing = stayed CutOff cart r.count known est
-followed m f plan known est cart goal limit r (Take t g) =
+unfoldable pub followed : Manner → Floor → (ℕ → Bool) → (ℕ → Bool) → (ℕ → ℕ) → ℕ → ℕ → ℕ → Found → Option (ℕ × ℕ) → Leg
+followed m f plan known est cart goal limit r None = stayed CutOff cart r.count known est
+followed m f plan known est cart goal limit r (Some (t, g)) =
     let F = g + est t in
     elim (ltb (cells f - 1) F) [
       | true ↦ stayed CutOff cart r.count known est

@@ -2,8 +2,8 @@
 // records and their code share.
 #![tactic(auto)]
 
-// The values of one trip record, in the layout's order.
-#[derive(Clone, Copy)]
+/// The values of one trip record, in the layout's order.
+#[derive(Clone, Copy, Debug, PartialEq, Eq)]
 pub struct Trip {
     pub serial: u16,
     pub cart: u16,

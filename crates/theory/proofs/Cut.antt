@@ -1,4 +1,5 @@
 -- A search that is cut off shows that there is no open route: any open route leaves the opened cells by a frontier cell.
+use Rattle.std.specs.Prelude.{Some, None}
 use Prim.Native.Nat.{ℕ, ◌+◌, ◌≤◌, ◌<◌}
 use mathlib.Core.Path.{◌≡◌}
 use mathlib.Core.Logic.{inl, inr}
@@ -8,9 +9,7 @@ use Rattle.floor.specs.declared.Floor.{Floor}
 use Rattle.floor.specs.Floor.{cells}
 use Rattle.theory.proofs.Soundness.{Sound, Within}
 use Rattle.rules.specs.Sound.{Route, here, step}
-use Rattle.floor.specs.declared.Choice.{TheVariants.Nothing}
 use Rattle.rules.specs.Search.{Search}
-use Rattle.floor.specs.declared.Distance.TheVariants.{Reached}
 use Rattle.floor.proofs.Tools.{clash}
 use Rattle.floor.proofs.Geometry.{beside-right}
 use Rattle.theory.proofs.Picks.{Least, Best}
@@ -20,8 +19,8 @@ use Rattle.theory.proofs.Short.{short}
 
 module _ (f : Floor) (plan known : ℕ → Bool) (est : ℕ → ℕ) (goal cart : ℕ) (s : Search)
     (sound : Sound f known est goal) (w : Within f known plan) (sought : Sought f known est goal cart s) where
-  crossing : {a n : ℕ} (g : ℕ) → s.opened a ≡ true → s.dist a ≡ Reached g → Route f plan goal a n
-      → (y h : ℕ) × (s.front y ≡ true) × (s.dist y ≡ Reached h) × (h + est y ≤ g + n)
+  crossing : {a n : ℕ} (g : ℕ) → s.opened a ≡ true → s.dist a ≡ Some g → Route f plan goal a n
+      → (y h : ℕ) × (s.front y ≡ true) × (s.dist y ≡ Some h) × (h + est y ≤ g + n)
   unfolding Within
   crossing g o d (here q) = clash o sought.unmet
   crossing g o d (step {a} {b} q e r) =
@@ -33,7 +32,7 @@ module _ (f : Floor) (plan known : ℕ → Bool) (est : ℕ → ℕ) (goal cart 
             (y, k, fy, dy, omega arith)
       ]
 
-  pub empty_cut : Best est s (cells f) Nothing → {n : ℕ} → Route f plan goal cart n → ⊥
+  pub empty_cut : Best est s (cells f) None → {n : ℕ} → Route f plan goal cart n → ⊥
   empty_cut none r =
       let (y, h, fy, dy, le) = crossing 0 sought.begun sought.inv.origin r in
       none y (sought.inv.wait_in y fy) h fy dy

@@ -1,4 +1,5 @@
 -- One leg: demand 3 for a single accepted leg, whatever its manner, as long as sensing and update are fit for it.
+use Rattle.std.specs.Prelude.{Option, Some, None}
 use Prim.Native.Nat.{ℕ, zero, suc, ◌+◌, ◌-◌, ◌≤◌, ◌<◌}
 use mathlib.Core.Path.{◌≡◌, refl, subst}
 use mathlib.Core.Bool.{Bool, true, false}
@@ -11,7 +12,6 @@ use Rattle.floor.specs.declared.Floor.{Floor}
 use Rattle.floor.specs.Floor.{cells}
 use Rattle.floor.proofs.Geometry.{beside-right}
 use Rattle.rules.specs.Sound.{Route, here, step}
-use Rattle.floor.specs.declared.Choice.{Choice, TheVariants.Nothing, TheVariants.Take}
 use Rattle.rules.specs.Search.{Search, start, pick, Found, seek}
 use Rattle.rules.specs.Leg.{Manner, route, Drive, drive, last, Leg, ended, stayed, driven, followed, leg}
 use Rattle.floor.specs.declared.Ending.{Ending}
@@ -115,12 +115,12 @@ wider up r =
 -- steps d, e, f after a search over a known map that has been sensed from the cart
 module _ (m : Manner) (f : Floor) (plan : ℕ → Bool) (fit : Fit f plan m) (goal : ℕ) (known : ℕ → Bool) (est : ℕ → ℕ) (cart limit : ℕ)
     (r : Ready f plan goal known est cart) (h : Sensed f plan cart known) (some : 0 < limit) where
-  followed_fair : (s : Found) → Sought f known est goal cart s.state → (p : Choice) → pick est s.state (cells f) ≡ p
+  followed_fair : (s : Found) → Sought f known est goal cart s.state → (p : Option (ℕ × ℕ)) → pick est s.state (cells f) ≡ p
       → Fair f plan goal known est cart (followed m f plan known est cart goal limit s p)
   unfolding followed
-  followed_fair s q Nothing e = stays f plan goal known est cart CutOff s.count r
+  followed_fair s q None e = stays f plan goal known est cart CutOff s.count r
       (λ n w. empty_cut f plan known est goal cart s.state r.sound r.within q (subst (Best est s.state (cells f)) e (pick_best _ _ _)) w)
-  followed_fair s q (Take t g) e = at (ltb (cells f - 1) F) refl
+  followed_fair s q (Some (t, g)) e = at (ltb (cells f - 1) F) refl
     where
       F : ℕ
       F = g + est t
@@ -196,9 +196,9 @@ leg_either P m f plan goal known est cart look limit stay go = at (eqb cart goal
     far r t g h true = stay CutOff r.count seen h
     far r t g h false = go r.count seen (m.update f (g + est t) r.state est) (route r.state.parent g t []) h
 
-    then : (r : Found) (p : Choice) → r.count ≤ look → P (followed m f plan seen est cart goal limit r p)
-    then r Nothing h = stay CutOff r.count seen h
-    then r (Take t g) h = far r t g h (ltb (cells f - 1) (g + est t))
+    then : (r : Found) (p : Option (ℕ × ℕ)) → r.count ≤ look → P (followed m f plan seen est cart goal limit r p)
+    then r None h = stay CutOff r.count seen h
+    then r (Some (t, g)) h = far r t g h (ltb (cells f - 1) (g + est t))
 
     at : (b : Bool) → P (elim b [
       | true ↦ stayed Arrived cart 0 known est

@@ -8,23 +8,23 @@ use Rattle.leg.proofs.mark.Goals.{In-To}
 use Rattle.leg.proofs.mark.Goals as goal
 
 -- the neighbour is on the floor
-inside : (c : In-To) → c.in-To.x < cells c.args.floor
-inside c = to_cell _ _ _ _ c.neighbour.ensures _ c.requires.0.sized c.requires.1 c.in-To.is
+inside : (c : In-Some) → c.in-Some.x < cells c.args.floor
+inside c = to_cell _ _ _ _ c.neighbour.ensures _ c.requires.0.sized c.requires.1 c.in-Some.is
 
 pub returns-in_default : goal.returns-in_default
 returns-in_default c = off_floor _ _ c.requires.0.bytes _ _ _ _ c.neighbour.ensures c.in_default.is
 
 pub bounds-plan-x : goal.bounds-plan-x
-bounds-plan-x c = omega (arith, inside (goal.at.bounds-plan-x c).In-To)
+bounds-plan-x c = omega (arith, inside (goal.at.bounds-plan-x c).In-Some)
 
 pub bounds-known-x : goal.bounds-known-x
-bounds-known-x c = omega (arith, inside (goal.at.bounds-known-x c).In-To)
+bounds-known-x c = omega (arith, inside (goal.at.bounds-known-x c).In-Some)
 
 pub returns-then-plan-x : goal.returns-then-plan-x
-returns-then-plan-x c = no_news _ _ c.requires.0.bytes _ _ _ _ c.neighbour.ensures _ c.in-To.is c.if-plan-x.true
+returns-then-plan-x c = no_news _ _ c.requires.0.bytes _ _ _ _ c.neighbour.ensures _ c.in-Some.is c.if-plan-x.true
 
 pub bounds-known-x-2 : goal.bounds-known-x-2
-bounds-known-x-2 c = omega (arith, inside (goal.at.bounds-known-x-2 c).In-To)
+bounds-known-x-2 c = omega (arith, inside (goal.at.bounds-known-x-2 c).In-Some)
 
 pub returns : goal.returns
-returns c = now_marked _ _ c.requires.0.bytes _ _ _ _ c.neighbour.ensures _ c.in-To.is (omega (arith, inside (goal.at.returns c).In-To)) (c.requires.0.plan_bytes _) c.if-plan-x.false
+returns c = now_marked _ _ c.requires.0.bytes _ _ _ _ c.neighbour.ensures _ c.in-Some.is (omega (arith, inside (goal.at.returns c).In-Some)) (c.requires.0.plan_bytes _) c.if-plan-x.false
