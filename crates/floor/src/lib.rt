@@ -99,6 +99,17 @@ pub struct Floor {
 impl Floor {
     pub const MAX_SIDE: usize = 64;
 
+    pub const NORTH: Heading = Heading::North;
+
+    pub const WEST: Heading = Heading::West;
+
+    pub const EAST: Heading = Heading::East;
+
+    pub const SOUTH: Heading = Heading::South;
+
+    /// From the neighbour of the lowest number to that of the highest.
+    pub const HEADINGS: [Heading; 4] = [Floor::NORTH, Floor::WEST, Floor::EAST, Floor::SOUTH];
+
     /// Whether both sides are in 1 to `MAX_SIDE`.
     pub fn sizes_hold(self) -> bool
         ensures { result ≡ sizes_ok self }
