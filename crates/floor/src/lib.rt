@@ -15,6 +15,14 @@ pub enum Heading {
     South,
 }
 
+/// A cell's distance from the cart in a search, or no way to it yet. (An enum of our own and no `Option`, since the requirements
+/// name its cases: docs/sources/01-scope.md, "Required forms by place".)
+#[derive(Clone, Copy, Debug, PartialEq, Eq)]
+pub enum Distance {
+    Reached(u16),
+    Unreached,
+}
+
 /// How a leg or a walk ended: `Spent` is a walk's alone, `UnderWay` a leg's.
 #[derive(Clone, Copy, Debug, PartialEq, Eq)]
 pub enum Ending {

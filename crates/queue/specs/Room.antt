@@ -1,11 +1,12 @@
 -- The search that the working room shows.
-use Rattle.std.specs.Prelude.{ℕ, zero, suc, ◌-◌, ◌*◌, ◌≤◌, Option, Some, None}
+use Rattle.std.specs.Prelude.{ℕ, zero, suc, ◌-◌, ◌*◌, ◌≤◌}
 use mathlib.Core.{Path.◌≡◌, Bool.Bool, Bool.true, Bool.false, Bool.not, Bool.◌&&◌, Bool.◌||◌, List.List}
 use lib.{Dec.eqb, Dec.ltb, ListN.length}
 use Rattle.floor.specs.{declared.Floor.Floor, Floor.cells}
 use Rattle.rules.specs.Search.{Search}
 pub use Rattle.room.specs.Layout.{columns, Holds}
 unfoldable pub use Rattle.room.specs.Layout.{column, route_from, Clean}
+use Rattle.floor.specs.declared.Distance.{Distance, TheVariants.Reached, TheVariants.Unreached}
 
 -- what is asked of a list of the floor's cells, known map or estimates, and of the room
 pub record Room (f : Floor) (board room : List ℕ) : Type 0 where
@@ -14,9 +15,9 @@ pub record Room (f : Floor) (board room : List ℕ) : Type 0 where
   pub room_long : length room ≡ cells f * columns
 
 -- the distance and the parent that a way stands for
-unfoldable pub distance_of : ℕ → Option ℕ
-distance_of zero = None
-distance_of (suc v) = Some (65535 - suc v)
+unfoldable pub distance_of : ℕ → Distance
+distance_of zero = Unreached
+distance_of (suc v) = Reached (65535 - suc v)
 
 unfoldable pub parent_of : ℕ → ℕ → ℕ
 parent_of zero p = 0
@@ -52,7 +53,7 @@ leaving c s = record {
 -- y joins the frontier, at distance g, with c as parent
 unfoldable pub joined : ℕ → ℕ → ℕ → Search → Search
 joined c g y s = record {
-  dist = λ x. elim (eqb x y) [ true ↦ Some g | false ↦ s.dist x ];
+  dist = λ x. elim (eqb x y) [ true ↦ Reached g | false ↦ s.dist x ];
   parent = λ x. elim (eqb x y) [ true ↦ c | false ↦ s.parent x ];
   front = λ x. eqb x y || s.front x;
   opened = s.opened;
