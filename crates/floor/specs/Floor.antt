@@ -77,20 +77,7 @@ prepared f goal = tabulate (cells f) (λ x. manhattan f x goal)
 
 -- a refusal's number in the table, and an answer's: 0 where it is no refusal
 abbrev pub number : Refusal → ℕ
-number r = elim r [
-  | Sizes ↦ 1
-  | Lengths ↦ 2
-  | Cells ↦ 3
-  | Settings ↦ 4
-  | Trail ↦ 5
-  | Bytes ↦ 6
-  | KnownMap ↦ 7
-  | Blocked ↦ 8
-  | Estimates ↦ 9
-  | RecordSize ↦ 10
-  | RecordValues ↦ 11
-  | Serial ↦ 12
-]
+number r = elim r [ Sizes ↦ 1 | Lengths ↦ 2 | Cells ↦ 3 | Settings ↦ 4 | Trail ↦ 5 | Bytes ↦ 6 | KnownMap ↦ 7 | Blocked ↦ 8 | Estimates ↦ 9 | RecordSize ↦ 10 | RecordValues ↦ 11 | Serial ↦ 12 ]
 
 unfoldable pub refused : {A : Type 0} → Result A Refusal → ℕ
 refused (Ok done) = 0

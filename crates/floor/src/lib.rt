@@ -15,62 +15,57 @@ pub enum Heading {
     South,
 }
 
-/// How a leg or a walk ended: `Spent` is a walk's alone, `UnderWay` a leg's.
+/// A cell's distance from the cart in a search, or no way to it yet. (An enum of our own and no `Option`, since the requirements
+/// name its cases: docs/sources/01-scope.md, "Required forms by place".)
+#[derive(Clone, Copy, Debug, PartialEq, Eq)]
+pub enum Distance {
+    Reached(u16),
+    Unreached,
+}
+
+/// How a leg or a walk ended, by the number that tells it: `Spent` is a walk's alone, `UnderWay` a leg's.
 #[derive(Clone, Copy, Debug, PartialEq, Eq)]
 pub enum Ending {
-    Arrived,
-    CutOff,
-    Spent,
-    UnderWay,
+    Arrived = 1,
+    CutOff = 2,
+    Spent = 3,
+    UnderWay = 4,
 }
 
 /// Why an entry refuses, in the order of the table's numbers, from 1 on.
 #[derive(Clone, Copy, Debug, PartialEq, Eq)]
 pub enum Refusal {
     /// A side is not in 1 to `Floor::MAX_SIDE`.
-    Sizes,
+    Sizes = 1,
     /// Plan, known map or estimates are not as long as the floor has cells.
-    Lengths,
+    Lengths = 2,
     /// Cart, start or goal is no cell of the floor.
-    Cells,
+    Cells = 3,
     /// Lookahead or move limit is not in 1 to 4,096.
-    Settings,
+    Settings = 4,
     /// The trail is too short.
-    Trail,
+    Trail = 5,
     /// A byte of plan or known map is above 1.
-    Bytes,
+    Bytes = 6,
     /// The known map is blocked where the plan is open.
-    KnownMap,
+    KnownMap = 7,
     /// The cart is on a blocked cell.
-    Blocked,
+    Blocked = 8,
     /// The estimates are not sound.
-    Estimates,
+    Estimates = 9,
     /// What is lent for records is not of their size.
-    RecordSize,
+    RecordSize = 10,
     /// A record's values break a rule, or there is no record of that number.
-    RecordValues,
+    RecordValues = 11,
     /// A serial is not the one after the last.
-    Serial,
+    Serial = 12,
 }
 
 impl From<Refusal> for u8 {
     ghost from_gives = { λ refusal n. n ≡ number refusal };
 
     fn from(refusal: Refusal) -> u8 {
-        match refusal {
-            Refusal::Sizes => 1,
-            Refusal::Lengths => 2,
-            Refusal::Cells => 3,
-            Refusal::Settings => 4,
-            Refusal::Trail => 5,
-            Refusal::Bytes => 6,
-            Refusal::KnownMap => 7,
-            Refusal::Blocked => 8,
-            Refusal::Estimates => 9,
-            Refusal::RecordSize => 10,
-            Refusal::RecordValues => 11,
-            Refusal::Serial => 12,
-        }
+        refusal as u8
     }
 }
 
@@ -98,6 +93,17 @@ pub struct Floor {
 
 impl Floor {
     pub const MAX_SIDE: usize = 64;
+
+    pub const NORTH: Heading = Heading::North;
+
+    pub const WEST: Heading = Heading::West;
+
+    pub const EAST: Heading = Heading::East;
+
+    pub const SOUTH: Heading = Heading::South;
+
+    /// From the neighbour of the lowest number to that of the highest.
+    pub const HEADINGS: [Heading; 4] = [Floor::NORTH, Floor::WEST, Floor::EAST, Floor::SOUTH];
 
     /// Whether both sides are in 1 to `MAX_SIDE`.
     pub fn sizes_hold(self) -> bool
@@ -185,8 +191,8 @@ fn fill(grid: Grid, goal: usize, est: &mut [u16])
     requires { (goal < cells grid.floor) × (length est.old ≡ cells grid.floor) }
     ensures { est.new ≡ prepared grid.floor goal }
 {
-    for x in 0..est.len() {
-        est[x] = grid.manhattan(x, goal);
+    for (cell, estimate) in est.iter_mut().enumerate() {
+        *estimate = grid.manhattan(cell, goal);
     }
 }
 

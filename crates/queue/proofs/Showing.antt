@@ -1,5 +1,5 @@
 -- What the room shows after stores: into the lists nothing new, and at a cell that gets a way that it joined.
-use Rattle.std.specs.Prelude.{None, Some}
+use Rattle.floor.specs.declared.Distance.{TheVariants.Reached, TheVariants.Unreached}
 use Prim.Native.Nat.{ℕ, zero, suc, ◌+◌, ◌-◌, ◌≤◌, ◌<◌}
 use mathlib.Core.Path.{◌≡◌, ◌∙◌, refl, sym, ap, ap₂, subst, fun_ext}
 use mathlib.Core.Logic.{inl, inr}
@@ -43,45 +43,45 @@ stands_among l (suc m) x k lt e = elim (both (eqb k m)) [
 
 -- ---- what a cell's way says
 
-pub no_way : (v : ℕ) → v ≡ 0 → None ≡ distance_of v
+pub no_way : (v : ℕ) → v ≡ 0 → Unreached ≡ distance_of v
 unfolding distance_of
 no_way v e = rw e
 
-pub some_way : (v : ℕ) → (v ≡ 0 → ⊥) → Some (65535 - v) ≡ distance_of v
+pub some_way : (v : ℕ) → (v ≡ 0 → ⊥) → Reached (65535 - v) ≡ distance_of v
 unfolding distance_of
 some_way zero n = absurd (n refl)
 some_way (suc v) n = refl
 
-pub way_of : (g : ℕ) → g < 65535 → distance_of (65535 - g) ≡ Some g
+pub way_of : (g : ℕ) → g < 65535 → distance_of (65535 - g) ≡ Reached g
 unfolding distance_of
 way_of g lt = at (65535 - g) refl (omega arith)
   where
-    at : (v : ℕ) → 65535 - g ≡ v → 0 < v → distance_of v ≡ Some g
+    at : (v : ℕ) → 65535 - g ≡ v → 0 < v → distance_of v ≡ Reached g
     at zero e lt = absurd (omega arith)
-    at (suc v) e lt = ap Some (omega arith)
+    at (suc v) e lt = ap Reached (omega arith)
 
 pub parent_of_way : (v p : ℕ) → 0 < v → parent_of v p ≡ p
 unfolding parent_of
 parent_of_way zero p lt = absurd (omega arith)
 parent_of_way (suc v) p lt = refl
 
-pub some : (v g : ℕ) → distance_of v ≡ Some g → 0 < v
+pub some : (v g : ℕ) → distance_of v ≡ Reached g → 0 < v
 unfolding distance_of
 some zero g e = let z : ◌≡◌ {A = ℕ} 0 1 = cc in omega arith
 some (suc v) g e = omega arith
 
-pub low_way : (v g : ℕ) → distance_of v ≡ Some g → g ≤ 65535
+pub low_way : (v g : ℕ) → distance_of v ≡ Reached g → g ≤ 65535
 unfolding distance_of
 low_way zero g e = let z : ◌≡◌ {A = ℕ} 0 1 = cc in omega arith
 low_way (suc v) g e = let z : 65535 - suc v ≡ g = cc in omega arith
 
-pub reach : (v : ℕ) → (v ≡ 0 → ⊥) → (g : ℕ) × (distance_of v ≡ Some g)
+pub reach : (v : ℕ) → (v ≡ 0 → ⊥) → (g : ℕ) × (distance_of v ≡ Reached g)
 unfolding distance_of
 reach zero ne = absurd (ne refl)
 reach (suc v) ne = (65535 - suc v, refl)
 
 -- a way that is more is shorter
-pub shorter : (v g h : ℕ) → v < 65535 - g → distance_of v ≡ Some h → g < h
+pub shorter : (v g h : ℕ) → v < 65535 - g → distance_of v ≡ Reached h → g < h
 unfolding distance_of
 shorter zero g h lt e = let z : ◌≡◌ {A = ℕ} 0 1 = cc in absurd (omega arith)
 shorter (suc v) g h lt e = let z : 65535 - suc v ≡ h = cc in omega arith
@@ -153,7 +153,7 @@ module _ (ways : List Way) (y : ℕ) (way : Way) where
 -- ---- the cell y joins, with c as parent
 
 module _ (s : Search) (c g y : ℕ) where
-  pub joined_here : ((joined c g y s).dist y ≡ Some g) × ((joined c g y s).parent y ≡ c) × ((joined c g y s).front y ≡ true)
+  pub joined_here : ((joined c g y s).dist y ≡ Reached g) × ((joined c g y s).parent y ≡ c) × ((joined c g y s).front y ≡ true)
   unfolding joined
   joined_here = rw (eq-eqb y y refl, joined) (refl, refl, refl)
 

@@ -1,17 +1,18 @@
 -- The search that the working room shows.
-use Rattle.std.specs.Prelude.{ℕ, zero, suc, ◌-◌, Option, Some, None}
+use Rattle.std.specs.Prelude.{ℕ, zero, suc, ◌-◌}
 use mathlib.Core.{Bool.Bool, Bool.true, Bool.false, Bool.not, Bool.◌&&◌, Bool.◌||◌, List.List}
 use lib.{Dec.eqb, Dec.ltb}
 use Rattle.floor.specs.Floor.{value_at}
+use Rattle.floor.specs.declared.Distance.{Distance, TheVariants.Reached, TheVariants.Unreached}
 use Rattle.rules.specs.Search.{Search}
 pub use Rattle.room.specs.declared.{Way.Way, Room.Room}
 pub use Rattle.room.specs.Layout.{way_at, nearness_at, parent_at, route_in, Holds}
 unfoldable pub use Rattle.room.specs.Layout.{Clean}
 
 -- the distance and the parent that a way stands for
-unfoldable pub distance_of : ℕ → Option ℕ
-distance_of zero = None
-distance_of (suc v) = Some (65535 - suc v)
+unfoldable pub distance_of : ℕ → Distance
+distance_of zero = Unreached
+distance_of (suc v) = Reached (65535 - suc v)
 
 unfoldable pub parent_of : ℕ → ℕ → ℕ
 parent_of zero p = 0
@@ -47,7 +48,7 @@ leaving c s = record {
 -- y joins the frontier, at distance g, with c as parent
 unfoldable pub joined : ℕ → ℕ → ℕ → Search → Search
 joined c g y s = record {
-  dist = λ x. elim (eqb x y) [ true ↦ Some g | false ↦ s.dist x ];
+  dist = λ x. elim (eqb x y) [ true ↦ Reached g | false ↦ s.dist x ];
   parent = λ x. elim (eqb x y) [ true ↦ c | false ↦ s.parent x ];
   front = λ x. eqb x y || s.front x;
   opened = s.opened;

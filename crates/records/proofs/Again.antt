@@ -1,12 +1,12 @@
 -- A record that keeps the rules is the layout of its values: what was read is written again byte for byte.
-use Rattle.std.proofs.Common.{◌≡◌, ℕ, zero, suc, ◌+◌, ◌*◌, ◌/◌, ◌%◌, ◌<◌, ◌≤◌, true, ◌&&◌, eqb, List, ◌++◌, length, get_or, take, drop, sym, refl, ap, ◌∙◌, arith, drop-cons, drop-drop, take-add, ltb-true, eqb-true}
-use Rattle.floor.specs.Floor.{if_accepted}
+use Rattle.std.proofs.Common.{◌≡◌, ℕ, zero, suc, ◌+◌, ◌*◌, ◌/◌, ◌%◌, ◌<◌, ◌≤◌, true, ◌&&◌, eqb, List, ◌++◌, length, get_or, take, drop, sym, refl, ap, ◌∙◌, arith, drop-cons, drop-drop, take-add, ltb-true, eqb-true, Result, Ok}
+use Rattle.floor.specs.Floor.{if_accepted, refused}
+use Rattle.floor.specs.declared.Refusal.{Refusal}
 use Rattle.floor.proofs.Refusing.{passed, accepted_left}
 use Rattle.floor.proofs.Tools.{and_1, and_2}
 use Rattle.rules.specs.declared.Trip.{Trip}
 use Rattle.rules.specs.Record.{put, got, layout, trip_at, values_ok, record_ok, next_serial, count_refusal, read_refusal, read_trip}
-use Rattle.records.specs.declared.{WriteAnswer.WriteAnswer, WriteAnswer.TheVariants.Written, ReadAnswer.TheVariants.Record}
-use Rattle.records.specs.Promise.{WritePromise, reads, ReadPromise}
+use Rattle.records.specs.Promise.{WritePromise, ReadPromise}
 use Rattle.records.proofs.Answering.{write_done}
 use Rattle.records.proofs.Unique.{write_unique}
 use Rattle.records.proofs.Lawful.{accepted}
@@ -80,20 +80,20 @@ unfolding if_accepted
 both_pass zero m e = (refl, e)
 both_pass (suc n) m e = absurd (omega arith)
 
-gave : {file : List ℕ} {i : ℕ} {t : Trip} → ReadPromise file i (Record t) → Gave file i t
-unfolding reads read_refusal read_trip
+gave : {file : List ℕ} {i : ℕ} {t : Trip} → ReadPromise file i (Ok t) → Gave file i t
+unfolding refused read_refusal read_trip
 gave {file} {i} p =
-    let none : read_refusal file i ≡ 0 = sym (ap (λ (x : ℕ × Trip). x.0) p.answers) in
+    let none : read_refusal file i ≡ 0 = sym p.answers in
     let tests = both_pass (count_refusal file) _ none in
     record {
       accepted = tests.0;
       within = ltb-true _ _ (passed _ _ _ tests.1).0;
-      there = ap (λ (x : ℕ × Trip). x.1) p.answers ∙ accepted_left none _ _;
+      there = p.values ∙ accepted_left none _ _;
     }
 
-pub written_again : {file : List ℕ} {number : ℕ} {t : Trip} {room bytes : List ℕ} {answer : WriteAnswer}
-    → ((x : ℕ) → x < length file → get_or file x 0 < 256) → ReadPromise file number (Record t) → length room ≡ 24 → WritePromise t room answer bytes
-    → (answer ≡ Written (next_serial t.serial)) × (bytes ≡ take 24 (drop (number * 24) file))
+pub written_again : {file : List ℕ} {number : ℕ} {t : Trip} {room bytes : List ℕ} {answer : Result ℕ Refusal}
+    → ((x : ℕ) → x < length file → get_or file x 0 < 256) → ReadPromise file number (Ok t) → length room ≡ 24 → WritePromise t room answer bytes
+    → (answer ≡ Ok (next_serial t.serial)) × (bytes ≡ take 24 (drop (number * 24) file))
 written_again {file} {number} {t} {room} small p long w =
     let g = gave p in
     let ok = (accepted file g.accepted).keeps number g.within in

@@ -1,16 +1,11 @@
 -- A record field by field: as the code lays it out, as it reads it, and how large each value can be.
-use Rattle.std.proofs.Common.{◌≡◌, ℕ, ◌+◌, ◌/◌, ◌%◌, ◌<◌, ◌≤◌, true, not, ◌&&◌, ◌||◌, eqb, ltb, leb, List, [], ◌∷◌, length, get_or, refl, arith, w8, w16, w32, Fits, ltb-true, leb-true}
+use Rattle.std.proofs.Common.{◌≡◌, ℕ, ◌+◌, ◌<◌, ◌≤◌, true, not, ◌&&◌, ◌||◌, eqb, ltb, leb, List, [], ◌∷◌, length, get_or, refl, arith, ◌++◌, w8, w16, w32, Fits, ltb-true, leb-true}
+use Rattle.std.specs.Int.{to_le_bytes}
 use Rattle.floor.specs.Floor.{up_to}
 use Rattle.floor.proofs.Tools.{and_1, and_2}
 use Rattle.rules.specs.declared.Trip.{Trip}
 use Rattle.rules.specs.Record.{put, got, layout, trip_at, values_ok}
 use Rattle.records.proofs.Numbers.{put_one, put_two, put_four, got_one}
-
--- each value fits its type, as every value of the code does
-abbrev pub Fitting : Trip → Type 0
-Fitting t =
-    Fits w16 t.serial × (Fits w16 t.cart × (Fits w16 t.start × (Fits w16 t.goal × (Fits w8 t.ending
-    × (Fits w16 t.last × (Fits w32 t.moves × (Fits w16 t.required × (Fits w16 t.look × (Fits w16 t.limit × (Unit {0}))))))))))
 
 pub length-layout : (t : Trip) → length (layout t) ≡ 24
 unfolding layout put
@@ -24,24 +19,23 @@ zero_two : put 2 0 ≡ 0 ∷ 0 ∷ []
 unfolding put
 zero_two = refl
 
-pub laid : (t : Trip) → Fitting t
-    → t.serial % 256 ∷ t.serial / 256 ∷ t.cart % 256 ∷ t.cart / 256 ∷ t.start % 256 ∷ t.start / 256 ∷ t.goal % 256 ∷ t.goal / 256
-    ∷ t.ending ∷ 0 ∷ t.last % 256 ∷ t.last / 256
-    ∷ t.moves % 256 ∷ t.moves / 256 % 256 ∷ t.moves / 65536 % 256 ∷ t.moves / 16777216
-    ∷ t.required % 256 ∷ t.required / 256 ∷ t.look % 256 ∷ t.look / 256 ∷ t.limit % 256 ∷ t.limit / 256 ∷ 0 ∷ 0 ∷ [] ≡ layout t
+pub laid : (t : Trip) → Fits w8 t.ending
+    → to_le_bytes w16 t.serial ++ to_le_bytes w16 t.cart ++ to_le_bytes w16 t.start ++ to_le_bytes w16 t.goal ++ t.ending ∷ 0 ∷ []
+    ++ to_le_bytes w16 t.last ++ to_le_bytes w32 t.moves ++ to_le_bytes w16 t.required ++ to_le_bytes w16 t.look ++ to_le_bytes w16 t.limit
+    ++ 0 ∷ 0 ∷ [] ≡ layout t
 unfolding layout
-laid t (s, (c, (a, (g, (e, (l, (m, (r, (k, (n, u)))))))))) =
+laid t e =
     rw (
-      put_two _ s,
-      put_two _ c,
-      put_two _ a,
-      put_two _ g,
-      put_one _ e,
-      put_two _ l,
-      put_four _ m,
-      put_two _ r,
-      put_two _ k,
-      put_two _ n,
+      put_two t.serial,
+      put_two t.cart,
+      put_two t.start,
+      put_two t.goal,
+      put_one t.ending e,
+      put_two t.last,
+      put_four t.moves,
+      put_two t.required,
+      put_two t.look,
+      put_two t.limit,
       zero_one,
       zero_two,
     ) refl

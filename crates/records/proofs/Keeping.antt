@@ -1,17 +1,16 @@
 -- What is written reads back: a file of records that the writer gave one after another is counted in full, and each is read as it was.
-use Rattle.std.proofs.Common.{◌≡◌, ℕ, suc, ◌*◌, ◌/◌, ◌%◌, ◌<◌, List, [], ◌∷◌, ◌++◌, length, sym, refl, ap, ◌∙◌, subst, append_assoc, append-nil, arith, length-append, eq-eqb}
-use Rattle.floor.specs.Floor.{refusal}
+use Rattle.std.proofs.Common.{◌≡◌, ℕ, suc, ◌*◌, ◌/◌, ◌%◌, ◌<◌, List, [], ◌∷◌, ◌++◌, length, sym, refl, ap, ◌∙◌, subst, append_assoc, append-nil, arith, length-append, eq-eqb, Result, Ok}
+use Rattle.floor.specs.Floor.{refusal, refused}
+use Rattle.floor.specs.declared.Refusal.{Refusal}
 use Rattle.floor.proofs.Refusing.{passes, passes_all}
 use Rattle.rules.specs.declared.Trip.{Trip}
 use Rattle.rules.specs.Record.{got, trip_at, record_ok, next_serial, record_tests, count_refusal}
-use Rattle.records.specs.declared.{ReadAnswer.ReadAnswer}
-use Rattle.records.specs.declared.{WriteAnswer.TheVariants.Written, CountAnswer.TheVariants.Records, ReadAnswer.TheVariants.Record}
-use Rattle.records.specs.Promise.{WritePromise, counts, CountPromise, ReadPromise}
+use Rattle.records.specs.Promise.{WritePromise, CountPromise, ReadPromise}
 use Rattle.records.specs.Files.{InWidth, File, end, trip, RecordsKeep}
 use Rattle.records.proofs.Fields.{length-layout}
 use Rattle.records.proofs.Answering.{count_done, read_done}
 use Rattle.records.proofs.Unique.{count_unique, read_unique}
-use Rattle.records.proofs.Placing.{Wrote, did, long, trip_placed, record_placed, serial_placed, due}
+use Rattle.records.proofs.Placing.{Wrote, did, long, trip_placed, record_placed, serial_placed, in_step}
 use Rattle.records.proofs.Lawful.{accepts, accepted}
 use Rattle.records.proofs.Again.{written_again}
 
@@ -28,7 +27,7 @@ tested xs i e end h = passes_all
 tested xs i e (trip {next = next} {t = t} {ts = ts} {bytes = bytes} {file = file} width p rest) h =
     let w = did p in
     passes _ _ _ (ap (record_ok (xs ++ (bytes ++ file))) (sym e) ∙ record_placed xs file width w)
-    (passes _ _ _ (due xs file width w i e h)
+    (passes _ _ _ (in_step xs file width w i e h)
     (subst (λ (l : List ℕ). refusal (record_tests l (suc i) (length ts)) ≡ 0) (append_assoc xs bytes file)
     (tested (xs ++ bytes) (suc i) longer rest serial_next)))
   where
@@ -90,17 +89,17 @@ module _ {serial : ℕ} (us : List Trip) (t : Trip) (ts : List Trip) {file : Lis
       let q = part us t ts f in
       rw (q.parts, sym q.placed) (trip_placed q.front q.rear q.width q.wrote)
 
-  pub read_written : {answer : ReadAnswer} → ReadPromise file (length us) answer → answer ≡ Record t
+  pub read_written : {answer : Result Trip Refusal} → ReadPromise file (length us) answer → answer ≡ Ok t
   read_written p =
       let within : length us < length file / 24 = rw (number f, length-append us (t ∷ ts)) (omega arith) in
-      read_unique p (read_done file (length us) (written_accepted f) within) ∙ ap Record trip_read
+      read_unique p (read_done file (length us) (written_accepted f) within) ∙ ap Ok trip_read
 
-none_refused : {bytes : List ℕ} {n : ℕ} → CountPromise bytes (Records n) → count_refusal bytes ≡ 0
-unfolding counts
-none_refused p = sym (ap (λ (x : ℕ × ℕ). x.0) p.answers)
+none_refused : {bytes : List ℕ} {n : ℕ} → CountPromise bytes (Ok n) → count_refusal bytes ≡ 0
+unfolding refused
+none_refused p = sym p.answers
 
-alone : {t : Trip} {room bytes : List ℕ} {next : ℕ} {answer : ReadAnswer} → WritePromise t room (Written next) bytes → InWidth t
-    → ReadPromise bytes 0 answer → answer ≡ Record t
+alone : {t : Trip} {room bytes : List ℕ} {next : ℕ} {answer : Result Trip Refusal} → WritePromise t room (Ok next) bytes → InWidth t
+    → ReadPromise bytes 0 answer → answer ≡ Ok t
 alone {t} {bytes = bytes} {answer = answer} w width p =
     read_written [] t [] (trip width w end) (subst (λ (l : List ℕ). ReadPromise l 0 answer) (sym (append-nil bytes)) p)
 
@@ -108,7 +107,7 @@ pub records_keep : RecordsKeep
 records_keep = record {
   counts_lawful = λ p l. count_unique p (count_done _ (accepts _ l));
   counts_only_lawful = λ p. accepted _ (none_refused p);
-  counts_in_full = λ f p. count_unique p (count_done _ (written_accepted f)) ∙ ap Records (number f);
+  counts_in_full = λ f p. count_unique p (count_done _ (written_accepted f)) ∙ ap Ok (number f);
   reads_back = λ us t ts f p. read_written us t ts f p;
   written_reads = alone;
   writes_again = written_again;

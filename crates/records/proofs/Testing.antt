@@ -1,6 +1,6 @@
 -- The tests of a file, record by record: what those from the i-th record on come to, at a record that breaks a rule, at one that does
 -- not, and past the last.
-use Rattle.std.proofs.Common.{◌≡◌, ℕ, zero, suc, ◌+◌, ◌-◌, ◌*◌, ◌/◌, ◌%◌, ◌<◌, ◌≤◌, true, false, eqb, List, length, refl, arith, eq-eqb, ne_eqb}
+use Rattle.std.proofs.Common.{◌≡◌, ℕ, zero, suc, ◌+◌, ◌-◌, ◌*◌, ◌/◌, ◌%◌, ◌<◌, ◌≤◌, true, false, eqb, List, length, refl, arith, eq-eqb, sym, Option, Some, None, unwrap_or}
 use Rattle.floor.specs.Floor.{refusal}
 use Rattle.rules.specs.Record.{got, record_ok, next_serial, follows, record_tests, count_refusal}
 
@@ -8,21 +8,26 @@ use Rattle.rules.specs.Record.{got, record_ok, next_serial, follows, record_test
 unfoldable pub rest : List ℕ → ℕ → ℕ → ℕ
 rest b n i = refusal (record_tests b i (n - i))
 
+-- the serial that the i-th record has to have
+unfoldable pub due : List ℕ → ℕ → Option ℕ
+due b zero = None
+due b (suc i) = Some (next_serial (got b (i * 24) 2))
+
+-- the first record may have any
+pub follows_due : (b : List ℕ) (i : ℕ) → follows b i ≡ eqb (got b (i * 24) 2) (unwrap_or (due b i) (got b (i * 24) 2))
+unfolding follows due
+follows_due b zero = sym (eq-eqb _ _ refl)
+follows_due b (suc i) = refl
+
 module _ (b : List ℕ) where
-  pub no_length : (length b % 24 ≡ 0 → ⊥) → 10 ≡ count_refusal b
+  pub no_length : eqb (length b % 24) 0 ≡ false → 10 ≡ count_refusal b
   unfolding count_refusal refusal
-  no_length e = rw (ne_eqb _ _ e)
+  no_length e = rw e
 
   -- the refusal of the whole file is what its records come to
-  pub all_records : length b % 24 ≡ 0 → count_refusal b ≡ rest b (length b / 24) 0
+  pub all_records : eqb (length b % 24) 0 ≡ true → count_refusal b ≡ rest b (length b / 24) 0
   unfolding count_refusal refusal rest
-  all_records e = let z : length b / 24 - 0 ≡ length b / 24 = omega arith in rw (eq-eqb _ _ e, z)
-
-  -- a record's serial is held to that of the 24 bytes before it
-  pub step : (i : ℕ) → (i ≡ 0 → ⊥) → follows b i ≡ eqb (got b (i * 24) 2) (next_serial (got b (i * 24 - 24) 2))
-  unfolding follows
-  step zero some = absurd (some refl)
-  step (suc i) some = let e : suc i * 24 - 24 ≡ i * 24 = omega arith in rw e refl
+  all_records e = let z : length b / 24 - 0 ≡ length b / 24 = omega arith in rw (e, z)
 
   module _ (n i : ℕ) where
     pub none_left : n ≤ i → rest b n i ≡ 0

@@ -1,6 +1,7 @@
 -- Two cells adjoin exactly where they follow each other in one row or are one width apart. So the two passes over such pairs test what
 -- soundness asks of adjoining cells.
 use Prim.Native.Nat.{ℕ, ◌+◌, ◌-◌, ◌*◌, ◌/◌, ◌%◌, ◌≤◌, ◌<◌}
+use Rattle.std.specs.Prelude.{Some}
 use mathlib.Core.Path.{◌≡◌, ◌∙◌, refl, sym}
 use mathlib.Core.Logic.{inl, inr}
 use mathlib.Core.Bool.{Bool, true, false, ◌&&◌, ◌||◌}
@@ -9,7 +10,7 @@ use native.Mathlib.Nat.{zero-add, mod-lt, div-add-mod', mul-le-mul_right, div-lt
 use lib.Dec.{ltb, leb, eqb}
 use lib.Arith.{digits_mod}
 use borrow.Author.Tests.{ltb-true, ltb-false, eqb-true, eqb-false}
-use Rattle.floor.specs.declared.{Floor.Floor, Heading.Heading, Step.TheVariants.To}
+use Rattle.floor.specs.declared.{Floor.Floor, Heading.Heading}
 use Rattle.floor.specs.declared.Heading.TheVariants.{North, West, East, South}
 use Rattle.floor.specs.Floor.{sizes_ok, cells, beside, neighbour}
 use Rattle.floor.proofs.Tools.{both, and_1, and_2, and_i, same_test}
@@ -97,7 +98,7 @@ module _ (f : Floor) (known : ℕ → Bool) (est : ℕ → ℕ) where
       unfolding cells
       row_on = (div-lt_iff_lt-mul pos).1 (omega (arith, beside-left f x y b))
 
-      headed : (h : Heading) → neighbour f x h ≡ To y → near_ok f known est x y ≡ true
+      headed : (h : Heading) → neighbour f x h ≡ Some y → near_ok f known est x y ≡ true
       headed North e = elim (both (ltb x f.width)) [
         | inl t ↦ cc (north_off f x (ltb-true _ _ t))
         | inr t ↦

@@ -4,16 +4,17 @@ use mathlib.Core.{Bool.Bool, Bool.true, Bool.false, Bool.◌&&◌, Bool.◌||◌
 use Rattle.floor.specs.{declared.Floor.Floor, Floor.cells, Floor.beside, Floor.tabulate, Floor.byte, Floor.blocked, Floor.value_at}
 pub use Rattle.floor.specs.declared.Ending.{Ending, TheVariants.Arrived, TheVariants.CutOff, TheVariants.Spent, TheVariants.UnderWay}
 use Rattle.rules.specs.{Search.Search, Search.start, Search.Found, Search.seek}
+use Rattle.floor.specs.declared.Distance.{Distance, TheVariants.Reached, TheVariants.Unreached}
 
 -- b: each adjoining cell blocked in the plan becomes blocked in the known map
 unfoldable pub sense : Floor → (ℕ → Bool) → ℕ → (ℕ → Bool) → ℕ → Bool
 sense f plan cart known x = known x || (beside f cart x && plan x)
 
 -- e: each opened cell's estimate becomes F minus its g; no other changes
-unfoldable pub lifted : ℕ → Bool → Option ℕ → ℕ → ℕ
+unfoldable pub lifted : ℕ → Bool → Distance → ℕ → ℕ
 lifted F false d e = e
-lifted F true None e = e
-lifted F true (Some g) e = F - g
+lifted F true Unreached e = e
+lifted F true (Reached g) e = F - g
 
 unfoldable pub raise : ℕ → Search → (ℕ → ℕ) → ℕ → ℕ
 raise F s est x = lifted F (s.opened x) (s.dist x) (est x)

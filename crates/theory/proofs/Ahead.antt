@@ -1,5 +1,4 @@
 -- The parents' route from the cart to the target: each cell beside the one before, not known blocked, and one lower by the new estimates.
-use Rattle.std.specs.Prelude.{Some}
 use Prim.Native.Nat.{ℕ, zero, suc, ◌+◌, ◌<◌}
 use mathlib.Core.Path.{◌≡◌, ◌∙◌, refl, ap, subst}
 use mathlib.Core.Bool.{Bool, false, not}
@@ -18,6 +17,7 @@ use Rattle.theory.proofs.Picks.{Least}
 use Rattle.theory.proofs.Seeks.{Sought}
 use Rattle.theory.proofs.Lifted.{ancestor, Lifted, hangs}
 use Rattle.theory.proofs.Drives.{Line, end, on}
+use Rattle.floor.specs.declared.Distance.{TheVariants.Reached}
 
 pub length-route : (parent : ℕ → ℕ) (k x : ℕ) (ahead : List ℕ) → length (route parent k x ahead) ≡ k + length ahead
 unfolding route
@@ -42,7 +42,7 @@ module _ (f : Floor) (known : ℕ → Bool) (est : ℕ → ℕ) (goal cart : ℕ
     line = back 0 g [] (omega arith) end
 
   -- its cells are reached by at least one move: what is so of no such cell is so of none on the route
-  avoids : (p : ℕ → Bool) → ((x k : ℕ) → s.dist x ≡ Some (suc k) → p x ≡ false) → (k x : ℕ) (ahead : List ℕ) → s.dist x ≡ Some k
+  avoids : (p : ℕ → Bool) → ((x k : ℕ) → s.dist x ≡ Reached (suc k) → p x ≡ false) → (k x : ℕ) (ahead : List ℕ) → s.dist x ≡ Reached k
       → barred p ahead ≡ false → barred p (route s.parent k x ahead) ≡ false
   unfolding route barred
   avoids p h zero x ahead d n = n
@@ -60,7 +60,7 @@ module _ (f : Floor) (known : ℕ → Bool) (est : ℕ → ℕ) (goal cart : ℕ
   -- the target is not the cart's cell, which is opened
   pub away : 0 < g
   away =
-      let n : (g ≡ 0 → ⊥) = λ e. stay (sought.inv.root t (least.reached ∙ ap Some e)) in
+      let n : (g ≡ 0 → ⊥) = λ e. stay (sought.inv.root t (least.reached ∙ ap Reached e)) in
       omega arith
     where
       stay : t ≡ cart → ⊥

@@ -1,5 +1,5 @@
 -- A search that is cut off shows that there is no open route: any open route leaves the opened cells by a frontier cell.
-use Rattle.std.specs.Prelude.{Some, None}
+use Rattle.std.specs.Prelude.{None}
 use Prim.Native.Nat.{ℕ, ◌+◌, ◌≤◌, ◌<◌}
 use mathlib.Core.Path.{◌≡◌}
 use mathlib.Core.Logic.{inl, inr}
@@ -16,11 +16,12 @@ use Rattle.theory.proofs.Picks.{Least, Best}
 use Rattle.theory.proofs.Seeks.{Sought}
 use Rattle.theory.proofs.Routes.{route_open, admissible}
 use Rattle.theory.proofs.Short.{short}
+use Rattle.floor.specs.declared.Distance.{TheVariants.Reached}
 
 module _ (f : Floor) (plan known : ℕ → Bool) (est : ℕ → ℕ) (goal cart : ℕ) (s : Search)
     (sound : Sound f known est goal) (w : Within f known plan) (sought : Sought f known est goal cart s) where
-  crossing : {a n : ℕ} (g : ℕ) → s.opened a ≡ true → s.dist a ≡ Some g → Route f plan goal a n
-      → (y h : ℕ) × (s.front y ≡ true) × (s.dist y ≡ Some h) × (h + est y ≤ g + n)
+  crossing : {a n : ℕ} (g : ℕ) → s.opened a ≡ true → s.dist a ≡ Reached g → Route f plan goal a n
+      → (y h : ℕ) × (s.front y ≡ true) × (s.dist y ≡ Reached h) × (h + est y ≤ g + n)
   unfolding Within
   crossing g o d (here q) = clash o sought.unmet
   crossing g o d (step {a} {b} q e r) =

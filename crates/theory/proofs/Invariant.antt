@@ -1,5 +1,4 @@
 -- The invariant of the search over sound estimates, kept by opening the cell that the search takes.
-use Rattle.std.specs.Prelude.{Option, Some, None}
 use Prim.Native.Nat.{ℕ, suc, ◌+◌, ◌≤◌, ◌<◌}
 use mathlib.Core.Path.{◌≡◌, ◌∙◌, refl, sym, ap, subst}
 use mathlib.Core.Logic.{◌⊎◌, inl, inr}
@@ -14,26 +13,27 @@ use Rattle.rules.specs.Search.{Search, falls, joins, opening}
 use Rattle.floor.proofs.Tools.{both, clash, and_1, and_2, or_cases, or_1, or_2, not_t, refute}
 use Rattle.floor.proofs.Geometry.{beside-right}
 use Rattle.theory.proofs.Picks.{Least, same}
+use Rattle.floor.specs.declared.Distance.{Distance, TheVariants.Reached, TheVariants.Unreached}
 
 pub record Inv (f : Floor) (known : ℕ → Bool) (est : ℕ → ℕ) (cart : ℕ) (s : Search) : Type 0 where
   -- opened and frontier cells are reached, are not both, and are all the reached cells
-  pub done_has : (x : ℕ) → s.opened x ≡ true → (g : ℕ) × (s.dist x ≡ Some g)
-  pub wait_has : (x : ℕ) → s.front x ≡ true → (g : ℕ) × (s.dist x ≡ Some g)
+  pub done_has : (x : ℕ) → s.opened x ≡ true → (g : ℕ) × (s.dist x ≡ Reached g)
+  pub wait_has : (x : ℕ) → s.front x ≡ true → (g : ℕ) × (s.dist x ≡ Reached g)
   pub wait_in : (x : ℕ) → s.front x ≡ true → x < cells f
   pub not_both : (x : ℕ) → s.front x ≡ true → s.opened x ≡ false
-  pub one_of : (x g : ℕ) → s.dist x ≡ Some g → (s.front x ≡ true) ⊎ (s.opened x ≡ true)
+  pub one_of : (x g : ℕ) → s.dist x ≡ Reached g → (s.front x ≡ true) ⊎ (s.opened x ≡ true)
   -- no opened cell's sum is above a frontier cell's
-  pub order : (x g y h : ℕ) → s.opened x ≡ true → s.dist x ≡ Some g → s.front y ≡ true → s.dist y ≡ Some h
+  pub order : (x g y h : ℕ) → s.opened x ≡ true → s.dist x ≡ Reached g → s.front y ≡ true → s.dist y ≡ Reached h
       → g + est x ≤ h + est y
   -- the neighbours of an opened cell are reached, at most one further
-  pub closed : (x g y : ℕ) → s.opened x ≡ true → s.dist x ≡ Some g → beside f x y ≡ true → known y ≡ false
-      → (h : ℕ) × (s.dist y ≡ Some h) × (h ≤ g + 1)
+  pub closed : (x g y : ℕ) → s.opened x ≡ true → s.dist x ≡ Reached g → beside f x y ≡ true → known y ≡ false
+      → (h : ℕ) × (s.dist y ≡ Reached h) × (h ≤ g + 1)
   -- reached cells are not known blocked, and hang by their parents on the cart
-  pub clear : (x g : ℕ) → s.dist x ≡ Some g → known x ≡ false
-  pub origin : s.dist cart ≡ Some 0
-  pub root : (x : ℕ) → s.dist x ≡ Some 0 → x ≡ cart
-  pub linked : (x g : ℕ) → s.dist x ≡ Some (suc g)
-      → (s.opened (s.parent x) ≡ true) × (beside f (s.parent x) x ≡ true) × (s.dist (s.parent x) ≡ Some g)
+  pub clear : (x g : ℕ) → s.dist x ≡ Reached g → known x ≡ false
+  pub origin : s.dist cart ≡ Reached 0
+  pub root : (x : ℕ) → s.dist x ≡ Reached 0 → x ≡ cart
+  pub linked : (x g : ℕ) → s.dist x ≡ Reached (suc g)
+      → (s.opened (s.parent x) ≡ true) × (beside f (s.parent x) x ≡ true) × (s.dist (s.parent x) ≡ Reached g)
 
 -- ---- what opening c, at g, changes
 
@@ -44,7 +44,7 @@ module _ (f : Floor) (known : ℕ → Bool) (c g : ℕ) (s : Search) where
   abbrev pub joining : ℕ → Bool
   joining = joins f known c g s
 
-  pub dist_yes : (x : ℕ) → joining x ≡ true → new.dist x ≡ Some (g + 1)
+  pub dist_yes : (x : ℕ) → joining x ≡ true → new.dist x ≡ Reached (g + 1)
   unfolding opening
   dist_yes x e = rw (e, opening)
 
@@ -60,8 +60,8 @@ module _ (f : Floor) (known : ℕ → Bool) (c g : ℕ) (s : Search) where
   unfolding opening
   parent_no x e = rw (e, opening)
 
-  pub dist_cases : (x h : ℕ) → new.dist x ≡ Some h
-      → ((joining x ≡ true) × (h ≡ g + 1)) ⊎ ((joining x ≡ false) × (s.dist x ≡ Some h))
+  pub dist_cases : (x h : ℕ) → new.dist x ≡ Reached h
+      → ((joining x ≡ true) × (h ≡ g + 1)) ⊎ ((joining x ≡ false) × (s.dist x ≡ Reached h))
   dist_cases x h e = elim (both (joining x)) [
     | inl j ↦ inl (j, same h (g + 1) e (dist_yes x j))
     | inr j ↦ inr (j, sym (dist_no x j) ∙ e)
@@ -110,19 +110,19 @@ module _ (f : Floor) (known : ℕ → Bool) (c g : ℕ) (s : Search) where
   unfolding joins
   joins_falls x e = search (and_1, and_2)
 
-  pub joins_less : (x h : ℕ) → joining x ≡ true → s.dist x ≡ Some h → g + 1 < h
+  pub joins_less : (x h : ℕ) → joining x ≡ true → s.dist x ≡ Reached h → g + 1 < h
   unfolding falls
-  joins_less x h e d = ltb-true (g + 1) h (subst (λ (k : Option ℕ). falls k (g + 1) ≡ true) d (joins_falls x e))
+  joins_less x h e d = ltb-true (g + 1) h (subst (λ (k : Distance). falls k (g + 1) ≡ true) d (joins_falls x e))
 
   -- a neighbour that does not join has a way that is as short
   pub joins_not : (x : ℕ) → joining x ≡ false → beside f c x ≡ true → known x ≡ false
-      → (h : ℕ) × (s.dist x ≡ Some h) × (h ≤ g + 1)
+      → (h : ℕ) × (s.dist x ≡ Reached h) × (h ≤ g + 1)
   unfolding joins falls
   joins_not x e b k = held (s.dist x) refl (rw (b, k) at e)
     where
-      held : (d : Option ℕ) → s.dist x ≡ d → falls (s.dist x) (g + 1) ≡ false → (h : ℕ) × (s.dist x ≡ Some h) × (h ≤ g + 1)
-      held None q z = clash (rw q refl) z
-      held (Some h) q z = (h, q, ltb-false (g + 1) h (subst (λ (k : Option ℕ). falls k (g + 1) ≡ false) q z))
+      held : (d : Distance) → s.dist x ≡ d → falls (s.dist x) (g + 1) ≡ false → (h : ℕ) × (s.dist x ≡ Reached h) × (h ≤ g + 1)
+      held Unreached q z = clash (rw q refl) z
+      held (Reached h) q z = (h, q, ltb-false (g + 1) h (subst (λ (k : Distance). falls k (g + 1) ≡ false) q z))
 
   -- ---- the invariant is kept
 
@@ -150,13 +150,13 @@ module _ (f : Floor) (known : ℕ → Bool) (c g : ℕ) (s : Search) where
       | inr p ↦ dist_no x (late x p)
     ]
 
-    under : (x a : ℕ) → new.opened x ≡ true → new.dist x ≡ Some a → a + est x ≤ g + est c
+    under : (x a : ℕ) → new.opened x ≡ true → new.dist x ≡ Reached a → a + est x ≤ g + est c
     under x a o d = elim (opened_cases x o) [
       | inl e ↦ rw e (omega (arith, same a g (sym (kept x o) ∙ d) (ap s.dist e ∙ least.reached)))
       | inr p ↦ inv.order x a c g p (sym (kept x o) ∙ d) least.waiting least.reached
     ]
 
-    over : (y b : ℕ) → new.front y ≡ true → new.dist y ≡ Some b → g + est c ≤ b + est y
+    over : (y b : ℕ) → new.front y ≡ true → new.dist y ≡ Reached b → g + est c ≤ b + est y
     over y b w d = elim (front_cases y w) [
       | inl j ↦ omega (
         arith,
@@ -167,20 +167,20 @@ module _ (f : Floor) (known : ℕ → Bool) (c g : ℕ) (s : Search) where
     ]
 
     -- a distance at most m stays so
-    near : (y m : ℕ) → (h : ℕ) × (s.dist y ≡ Some h) × (h ≤ m) → (h : ℕ) × (new.dist y ≡ Some h) × (h ≤ m)
+    near : (y m : ℕ) → (h : ℕ) × (s.dist y ≡ Reached h) × (h ≤ m) → (h : ℕ) × (new.dist y ≡ Reached h) × (h ≤ m)
     near y m (h, d, le) = elim (both (joining y)) [
       | inl j ↦ (g + 1, dist_yes y j, omega (arith, joins_less y h j d))
       | inr j ↦ (h, dist_no y j ∙ d, le)
     ]
 
-    reach : (y : ℕ) → beside f c y ≡ true → known y ≡ false → (h : ℕ) × (new.dist y ≡ Some h) × (h ≤ g + 1)
+    reach : (y : ℕ) → beside f c y ≡ true → known y ≡ false → (h : ℕ) × (new.dist y ≡ Reached h) × (h ≤ g + 1)
     reach y b k = elim (both (joining y)) [
       | inl j ↦ (g + 1, dist_yes y j, omega arith)
       | inr j ↦ near y (g + 1) (joins_not y j b k)
     ]
 
-    hang : (x p a : ℕ) → new.parent x ≡ p → new.opened p ≡ true → beside f p x ≡ true → s.dist p ≡ Some a
-        → (new.opened (new.parent x) ≡ true) × (beside f (new.parent x) x ≡ true) × (new.dist (new.parent x) ≡ Some a)
+    hang : (x p a : ℕ) → new.parent x ≡ p → new.opened p ≡ true → beside f p x ≡ true → s.dist p ≡ Reached a
+        → (new.opened (new.parent x) ≡ true) × (beside f (new.parent x) x ≡ true) × (new.dist (new.parent x) ≡ Reached a)
     hang x p a e o b d = rw e (o, b, kept p o ∙ d)
 
     pub inv_opening : Inv f known est cart new
@@ -227,7 +227,7 @@ module _ (f : Floor) (known : ℕ → Bool) (c g : ℕ) (s : Search) where
       ];
       linked = λ x a d. elim (dist_cases x (suc a) d) [
         | inl q ↦ hang x c a (parent_yes x q.0) opened_new (joins_beside x q.0)
-            (least.reached ∙ ap Some (pred_eq a g q.1))
+            (least.reached ∙ ap Reached (pred_eq a g q.1))
         | inr q ↦ let l = inv.linked x a q.1 in
             hang x (s.parent x) a (parent_no x q.0) (opened_old (s.parent x) l.0) l.1 l.2
       ];

@@ -1,5 +1,4 @@
 -- What the facts about one leg ask of the new estimates, whatever the update that gives them.
-use Rattle.std.specs.Prelude.{Some}
 use Prim.Native.Nat.{ℕ, zero, suc, ◌+◌, ◌≤◌, ◌<◌}
 use mathlib.Core.Path.{◌≡◌, ◌∙◌, ap}
 use mathlib.Core.Bool.{Bool, true}
@@ -10,6 +9,7 @@ use Rattle.theory.proofs.Soundness.{Sound}
 use Rattle.rules.specs.Search.{Search}
 use Rattle.theory.proofs.Picks.{Least}
 use Rattle.theory.proofs.Seeks.{Sought}
+use Rattle.floor.specs.declared.Distance.{TheVariants.Reached}
 
 -- k steps back from t along the parents
 unfoldable pub ancestor : (ℕ → ℕ) → ℕ → ℕ → ℕ
@@ -35,9 +35,9 @@ Lifts f update = (known : ℕ → Bool) (est : ℕ → ℕ) (goal cart : ℕ) (s
 
 module _ (f : Floor) (known : ℕ → Bool) (est : ℕ → ℕ) (goal cart : ℕ) (s : Search) (t g : ℕ)
     (sought : Sought f known est goal cart s) (least : Least est s (cells f) t g) where
-  pub hangs : (k h : ℕ) → k + h ≡ g → s.dist (ancestor s.parent k t) ≡ Some h
+  pub hangs : (k h : ℕ) → k + h ≡ g → s.dist (ancestor s.parent k t) ≡ Reached h
   unfolding ancestor
-  hangs zero h e = least.reached ∙ ap Some (omega arith)
+  hangs zero h e = least.reached ∙ ap Reached (omega arith)
   hangs (suc k) h e = (sought.inv.linked (ancestor s.parent k t) h (hangs k (suc h) (omega arith))).2
 
   pub hangs_opened : (k h : ℕ) → suc k + h ≡ g → s.opened (ancestor s.parent (suc k) t) ≡ true

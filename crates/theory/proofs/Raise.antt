@@ -1,5 +1,4 @@
 -- Raising the estimates after a search whose target is t at g: none falls, and sound estimates stay sound.
-use Rattle.std.specs.Prelude.{Some}
 use Prim.Native.Nat.{ℕ, zero, suc, ◌+◌, ◌-◌, ◌≤◌, ◌<◌}
 use mathlib.Core.Path.{◌≡◌, ◌∙◌}
 use mathlib.Core.Logic.{inl, inr}
@@ -14,9 +13,10 @@ use Rattle.floor.proofs.Tools.{both, clash}
 use Rattle.theory.proofs.Picks.{Least}
 use Rattle.theory.proofs.Seeks.{Sought}
 use Rattle.theory.proofs.Lifted.{ancestor, Lifts, hangs, hangs_opened}
+use Rattle.floor.specs.declared.Distance.{TheVariants.Reached}
 
 module _ (F : ℕ) (s : Search) (est : ℕ → ℕ) (x : ℕ) where
-  pub raise_yes : (h : ℕ) → s.opened x ≡ true → s.dist x ≡ Some h → raise F s est x ≡ F - h
+  pub raise_yes : (h : ℕ) → s.opened x ≡ true → s.dist x ≡ Reached h → raise F s est x ≡ F - h
   unfolding raise lifted
   raise_yes h o d = rw (o, d, lifted)
 
@@ -27,10 +27,10 @@ module _ (F : ℕ) (s : Search) (est : ℕ → ℕ) (x : ℕ) where
 module _ (f : Floor) (known : ℕ → Bool) (est : ℕ → ℕ) (goal cart : ℕ) (s : Search) (t g : ℕ)
     (sound : Sound f known est goal) (sought : Sought f known est goal cart s) (least : Least est s (cells f) t g) where
   -- the sum of an opened cell is at most F, and its new estimate is what is left of F
-  pub fits : (x h : ℕ) → s.opened x ≡ true → s.dist x ≡ Some h → h + est x ≤ g + est t
+  pub fits : (x h : ℕ) → s.opened x ≡ true → s.dist x ≡ Reached h → h + est x ≤ g + est t
   fits x h o d = sought.inv.order x h t g o d least.waiting least.reached
 
-  pub raised : (x h : ℕ) → s.opened x ≡ true → s.dist x ≡ Some h → raise (g + est t) s est x + h ≡ g + est t
+  pub raised : (x h : ℕ) → s.opened x ≡ true → s.dist x ≡ Reached h → raise (g + est t) s est x + h ≡ g + est t
   raised x h o d = omega (arith, fits x h o d, raise_yes (g + est t) s est x h o d)
 
   pub no_fall : (x : ℕ) → est x ≤ raise (g + est t) s est x
@@ -40,7 +40,7 @@ module _ (f : Floor) (known : ℕ → Bool) (est : ℕ → ℕ) (goal cart : ℕ
   ]
 
   -- the estimate of a cell that is not opened but beside an opened one
-  rim : (x y h k : ℕ) → s.dist x ≡ Some h → s.opened y ≡ false → s.dist y ≡ Some k → g + est t ≤ k + est y
+  rim : (x y h k : ℕ) → s.dist x ≡ Reached h → s.opened y ≡ false → s.dist y ≡ Reached k → g + est t ≤ k + est y
   rim x y h k d n e = elim (sought.inv.one_of y k e) [
     | inl w ↦ least.least y (sought.inv.wait_in y w) k w e
     | inr o ↦ clash o n

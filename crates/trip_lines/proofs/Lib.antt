@@ -1,5 +1,2 @@
-pub mod Listing
-pub mod Placing
-pub mod Saying
 pub mod Spelling
 pub mod Unique

@@ -1,118 +1,119 @@
-// The lines that the trip printer prints, each put into a lent buffer.
+// The lines that the trip printer prints.
 #![tactic(auto)]
 
-ghost use Rattle.std.specs.Prelude.{◌+◌, ◌*◌, ◌≤◌, ◌++◌, length, take};
-ghost use Rattle.io.specs.Counts.{IsPrefixLen};
-ghost use Rattle.rules.specs.Printer.{ascii, decimal, leg_line, end_line, spaced};
-ghost use Rattle.trip_lines.specs.Lines.{LinePromise};
-ghost use Rattle.trip_lines.specs.Placed.{Placed, front};
+ghost use Rattle.std.specs.Prelude.{◌≡◌, ◌++◌, Some};
+ghost use Rattle.std.specs.Fmt.{WritesOnOk};
+ghost use Rattle.rules.specs.Printer.{ascii, leg_line, end_line, spaced};
+ghost use Rattle.trip_lines.specs.Lines.{ended, text_of};
 
 use floor::Ending;
+use std::fmt;
 
-// A line: of a text fault; of a refusal by its number; of a leg by its number, cells opened, moves and the cell after it; of the end
-// by the ending and the totals of moves, legs and cells opened; of so many estimates; or no line.
-#[derive(Clone, Copy)]
+/// A line of what is printed.
+#[derive(Clone, Copy, Debug, PartialEq, Eq)]
 pub enum Line {
     BadInput,
+    /// Any number is shown, a refusal's or not: `text_of` has a text for each.
     Refused(u8),
-    Leg(u32, u16, u16, u16),
-    End(Ending, u32, u32, u32),
+    /// A leg, counted from 1, and the cell after it.
+    Leg {
+        number: u32,
+        opened: u16,
+        moves: u16,
+        cell: u16,
+    },
+    /// The end, with the totals.
+    End {
+        ending: Ending,
+        moves: u32,
+        legs: u32,
+        opened: u32,
+    },
+    /// The first so many estimates, or all where there are fewer.
     Estimates(usize),
-    Nothing,
 }
 
-// Puts bytes into `out` from `at` on, and answers where they end.
-fn put(bytes: &[u8], out: &mut [u8], at: usize) -> usize
-    requires { at + length bytes.now ≤ length out.old }
-    ensures { Placed at bytes.now out.old result out.new }
+/// A line beside the estimates that it may show, as `{}` prints it.
+#[derive(Clone, Copy)]
+pub struct Printed<'a> {
+    pub line: Line,
+    pub estimates: &'a [u16],
+}
+
+impl fmt::Display for Printed<'_> {
+    ghost output = { λ p. Some (text_of p.line p.estimates.now) };
+
+    fn fmt<W: fmt::Write>(&self, f: &mut fmt::Formatter<W>) -> fmt::Result {
+        match self.line {
+            Line::BadInput => writeln!(f, "bad input"),
+            Line::Refused(number) => writeln!(f, "refused {number}"),
+            Line::Leg {
+                number,
+                opened,
+                moves,
+                cell,
+            } => write_leg(number, opened, moves, cell, f),
+            Line::End {
+                ending,
+                moves,
+                legs,
+                opened,
+            } => write_end(ending, moves, legs, opened, f),
+            Line::Estimates(count) => {
+                write_estimates(self.estimates.get(..count).unwrap_or(self.estimates), f)
+            }
+        }
+    }
+}
+
+// Writes a leg's line.
+fn write_leg<W: fmt::Write>(
+    number: u32,
+    opened: u16,
+    moves: u16,
+    cell: u16,
+    f: &mut fmt::Formatter<W>,
+) -> fmt::Result
+    ensures { WritesOnOk W.write_str_gives f.old result (leg_line number opened moves cell) f.new }
 {
-    out[at..at + bytes.len()].copy_from_slice(bytes);
-    at + bytes.len()
+    writeln!(f, "leg {number} opened {opened} moves {moves} cell {cell}")
 }
 
-// Puts a word and after it a number in decimal, which has at most ten digits.
-fn put_number(word: &[u8], n: u32, out: &mut [u8], at: usize) -> usize
-    requires { at + length word.now + 10 ≤ length out.old }
-    ensures placed { Placed at (word.now ++ decimal n) out.old result out.new }
-    ensures upper_bound { result ≤ at + length word.now + 10 }
-{
-    let mut digits = [0u8; 20];
-    let k = io::decimal(n as u64, &mut digits);
-    let to = put(word, out, at);
-    put(&digits[..k], out, to)
-}
-
-// Puts a word, after it a number in decimal, and ends the line.
-fn put_last(word: &[u8], n: u32, out: &mut [u8], at: usize) -> usize
-    requires { at + length word.now + 11 ≤ length out.old }
-    ensures { Placed at (word.now ++ decimal n ++ ascii "\n") out.old result out.new }
-{
-    let to = put_number(word, n, out, at);
-    put(b"\n", out, to)
-}
-
-// Puts a leg's line.
-fn put_leg(number: u32, opened: u16, moves: u16, cell: u16, out: &mut [u8]) -> usize
-    requires { 66 ≤ length out.old }
-    ensures { Placed 0 (leg_line number opened moves cell) out.old result out.new }
-{
-    let a = put_number(b"leg ", number, out, 0);
-    let b = put_number(b" opened ", opened as u32, out, a);
-    let c = put_number(b" moves ", moves as u32, out, b);
-    put_last(b" cell ", cell as u32, out, c)
-}
-
-// Puts the front of an end line, up to its ending.
-fn put_ending(ending: Ending, out: &mut [u8]) -> usize
-    requires { 13 ≤ length out.old }
-    ensures placed { Placed 0 (front ending) out.old result out.new }
-    ensures upper_bound { result ≤ 13 }
+// An end line's first words.
+#[tactic(auto, unfolding(crate::specs::Lines::ended, rules::specs::Printer::ascii))]
+fn end_words(ending: Ending) -> &'static str
+    ensures { result.now ≡ ended ending }
 {
     match ending {
-        Ending::Arrived => put(b"end arrived", out, 0),
-        Ending::CutOff => put(b"end cut off", out, 0),
-        Ending::Spent => put(b"end spent", out, 0),
-        Ending::UnderWay => put(b"end under way", out, 0),
+        Ending::Arrived => "end arrived",
+        Ending::CutOff => "end cut off",
+        Ending::Spent => "end spent",
+        Ending::UnderWay => "end under way",
     }
 }
 
-// Puts the end line.
-fn put_end(ending: Ending, moves: u32, legs: u32, opened: u32, out: &mut [u8]) -> usize
-    requires { 65 ≤ length out.old }
-    ensures { Placed 0 (end_line ending moves legs opened) out.old result out.new }
+// Writes the end line.
+fn write_end<W: fmt::Write>(
+    ending: Ending,
+    moves: u32,
+    legs: u32,
+    opened: u32,
+    f: &mut fmt::Formatter<W>,
+) -> fmt::Result
+    ensures { WritesOnOk W.write_str_gives f.old result (end_line ending moves legs opened) f.new }
 {
-    let a = put_ending(ending, out);
-    let b = put_number(b" moves ", moves, out, a);
-    let c = put_number(b" legs ", legs, out, b);
-    put_last(b" opened ", opened, out, c)
+    let words = end_words(ending);
+    writeln!(f, "{words} moves {moves} legs {legs} opened {opened}")
 }
 
-// Puts the first n estimates, or all where there are fewer: a space and at most five digits each.
-fn put_estimates(n: usize, est: &[u16], out: &mut [u8]) -> usize
-    requires { 6 * length est.now + 20 ≤ length out.old }
-    ensures { Placed 0 (ascii "estimates" ++ spaced (take n est.now)) out.old result out.new }
+// Writes the line of estimates.
+fn write_estimates<W: fmt::Write>(estimates: &[u16], f: &mut fmt::Formatter<W>) -> fmt::Result
+    ensures { WritesOnOk W.write_str_gives f.old result
+        (ascii "estimates" ++ spaced estimates.now) f.new }
 {
-    let mut at = put(b"estimates", out, 0);
-    for i in 0..est.len() {
-        if n <= i {
-            break;
-        }
-        at = put_number(b" ", est[i] as u32, out, at);
+    write!(f, "estimates")?;
+    for estimate in estimates {
+        write!(f, " {estimate}")?;
     }
-    put(b"\n", out, at)
-}
-
-// Entry: puts a line at the front of `out`, and answers where it ends. The estimates are those of the line that shows them.
-pub fn put_line(line: Line, est: &[u16; 4096], out: &mut [u8; 32768]) -> usize
-    ensures line_promise { LinePromise line est.now out.old result out.new }
-    ensures prefix_len { IsPrefixLen result out.new }
-{
-    match line {
-        Line::BadInput => put(b"bad input\n", out, 0),
-        Line::Refused(n) => put_last(b"refused ", n as u32, out, 0),
-        Line::Leg(number, opened, moves, cell) => put_leg(number, opened, moves, cell, out),
-        Line::End(ending, moves, legs, opened) => put_end(ending, moves, legs, opened, out),
-        Line::Estimates(n) => put_estimates(n, est, out),
-        Line::Nothing => 0,
-    }
+    writeln!(f)
 }

@@ -20,9 +20,9 @@ use Rattle.rules.specs.Request.{Request, setting_ok, walk_refusal}
 use Rattle.rules.specs.Printer.{split, field, line_at, first_line_ok, asked, row_ok, rows_ok}
 use Rattle.theory.proofs.Soundness.{every_i, Within, within_test, sound_test, prepared_sound}
 use Rattle.theory.proofs.Accepts.{Accepted, accepted}
-use Rattle.trip_text.specs.declared.{Errand.Errand, Heard.Heard, Heard.TheVariants.BadInput, Heard.TheVariants.Refused, Heard.TheVariants.Asked}
-use Rattle.trip_text.specs.Parts.{line_ok, errand_of, rest_ok, mark, errand_refusal, judged}
-use Rattle.trip_text.specs.Heard.{errand_in, heard_in}
+use Rattle.trip_text.specs.declared.{Errand.Errand}
+use Rattle.trip_text.specs.Parts.{line_ok, rest_ok, mark, errand_refusal, judged}
+use Rattle.trip_text.specs.Heard.{Heard, BadInput, Refused, Asked, errand_at, errand_in, heard_in}
 use Rattle.trip_text.proofs.Forms.{test, refuses, heard_as, heard}
 use Rattle.trip_text.proofs.Judging.{bad_sizes, bad_rows}
 use Rattle.trip_text.proofs.Pieces.{first_piece, last_piece, split_some}
@@ -58,7 +58,7 @@ module _ (text : List ℕ) where
   f = (errand_in text).floor
 
   pub sizes_refused : sizes_ok f ≡ false → refuses text ≡ 1
-  unfolding errand_in asked walk_refusal
+  unfolding errand_at errand_in asked walk_refusal
   sizes_refused s = first_fails (sizes_ok f) _ s
 
   no_first_line : first_line_ok text ≡ false → BadInput ≡ heard_in text
@@ -113,9 +113,9 @@ module _ (text : List ℕ) where
       unfolding first_line_ok line_ok
       first_is = rw (some, line_is)
 
-      errand_is : (fields : List ℕ) → fields ≡ tabulate 7 (field line) → errand_of fields ≡ errand_in text
-      unfolding errand_in tabulate
-      errand_is fields e = rw (e, line_is)
+      errand_is : errand_at line ≡ errand_in text
+      unfolding errand_in
+      errand_is = ap errand_at (sym line_is)
 
       pub rows_are : (w h : ℕ) → rows_ok text w h ≡ rest_ok rows w h
       unfolding rows_ok rest_ok
@@ -132,7 +132,7 @@ module _ (text : List ℕ) where
       marks w x = ap (λ (l : List ℕ). eqb (get_or l (x % w) 0) 35) (row_is (x / w))
 
       walk_refusal_is : sizes_ok f ≡ true → refuses text ≡ errand_refusal rows (errand_in text)
-      unfolding errand_in asked walk_refusal errand_refusal prepared blocked Within
+      unfolding errand_at errand_in asked walk_refusal errand_refusal prepared blocked Within
       walk_refusal_is s =
           let n = cells f in
           let e = errand_in text in
@@ -174,8 +174,8 @@ module _ (text : List ℕ) where
       pub no_line : false ≡ line_ok line → BadInput ≡ heard_in text
       no_line e = no_first_line (first_is ∙ sym e)
 
-      pub heard_by : true ≡ line_ok line → (fields : List ℕ) → fields ≡ tabulate 7 (field line) → judged rows (errand_of fields) ≡ heard_in text
-      heard_by e fields is = ap (judged rows) (errand_is fields is) ∙ sym (heard_is (first_is ∙ sym e))
+      pub heard_by : true ≡ line_ok line → judged rows (errand_at line) ≡ heard_in text
+      heard_by e = ap (judged rows) errand_is ∙ sym (heard_is (first_is ∙ sym e))
 
   -- a text that asks for a trip
   module _ (e : Errand) (asks : heard_in text ≡ Asked e) where
@@ -212,11 +212,11 @@ module _ (text : List ℕ) where
     tests = accepted _ r refuses_none
 
     pub sized : sizes_ok f ≡ true
-    unfolding errand_in asked
+    unfolding errand_at errand_in asked
     sized = tests.sized
 
     pub aimed : (errand_in text).goal < cells f
-    unfolding errand_in asked
+    unfolding errand_at errand_in asked
     aimed = tests.aim
 
     rowed : rows_ok text f.width f.height ≡ true
@@ -230,5 +230,5 @@ module _ (text : List ℕ) where
       rowed_on = sym (rows_are end found fed f.width f.height) ∙ rowed
 
       pub plan_is : tabulate (cells f) (λ x. byte (mark (drop (end + 1) text) f.width x)) ≡ r.plan
-      unfolding errand_in asked
+      unfolding errand_at errand_in asked
       plan_is = λ i. tabulate (cells f) (λ x. byte (sym (marks end found fed f.width x) i))

@@ -7,8 +7,7 @@ use Rattle.floor.specs.declared.Floor.{Floor}
 use Rattle.floor.specs.Floor.{sizes_ok}
 use Rattle.rules.specs.Request.{Request, walk_refusal, walk_of}
 use Rattle.rules.specs.Printer.{ascii, field, line_at, first_line_ok, asked, rows_ok, decimal, trip, printed}
-use Rattle.trip_text.specs.declared.Heard.{Heard, TheVariants.BadInput, TheVariants.Refused, TheVariants.Asked}
-use Rattle.trip_text.specs.Heard.{errand_in, heard_in}
+use Rattle.trip_text.specs.Heard.{Heard, BadInput, Refused, Asked, errand_at, errand_in, heard_in}
 
 module _ (text : List ℕ) where
   abbrev pub r : Request
@@ -31,7 +30,7 @@ module _ (text : List ℕ) where
   heard_as t n = elim t [ false ↦ BadInput | true ↦ elim n [ zero ↦ Asked (errand_in text) | suc n ↦ Refused (suc n) ] ]
 
   pub heard : heard_in text ≡ heard_as test refuses
-  unfolding heard_as heard_in errand_in asked
+  unfolding heard_as heard_in errand_at errand_in asked
   heard = refl
 
   unfoldable pub printed_as : Bool → ℕ → List ℕ
@@ -41,5 +40,5 @@ module _ (text : List ℕ) where
   ]
 
   pub printed_is : printed text ≡ printed_as test refuses
-  unfolding printed_as printed errand_in asked
+  unfolding printed_as printed errand_at errand_in asked
   printed_is = refl

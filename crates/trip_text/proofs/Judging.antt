@@ -7,7 +7,8 @@ use native.Mathlib.Omega.{arith}
 use lib.Dec.{ltb}
 use Rattle.floor.specs.Floor.{sizes_ok, cells, byte, refusal}
 use Rattle.rules.specs.Request.{setting_ok}
-use Rattle.trip_text.specs.declared.{Errand.Errand, Heard.TheVariants.BadInput, Heard.TheVariants.Refused, Heard.TheVariants.Asked}
+use Rattle.trip_text.specs.declared.{Errand.Errand}
+use Rattle.trip_text.specs.Heard.{BadInput, Refused, Asked}
 use Rattle.trip_text.specs.Parts.{rest_ok, mark, errand_refusal, judged}
 
 pub blocked_byte : (t : Bool) → byte t ≡ 1 → t ≡ true
@@ -25,7 +26,7 @@ module _ (rows : List ℕ) (e : Errand) where
   ends_on_floor = ltb e.start (cells e.floor) && ltb e.goal (cells e.floor)
 
   abbrev pub allowed : Bool
-  allowed = setting_ok (record { look = e.look.0; limit = e.limit.0 })
+  allowed = setting_ok (record { look = e.setting.look.0; limit = e.setting.limit.0 })
 
   abbrev stuck : Bool
   stuck = mark rows e.floor.width e.start

@@ -17,7 +17,7 @@ use Rattle.floor.proofs.Geometry.{sides}
 use Rattle.rules.specs.Printer.{ascii, joined, split, is_number, word, field, first_line_ok, rows_ok, decimal, printed}
 use Rattle.theory.proofs.Soundness.{every_at}
 use Rattle.trip_text.specs.Parts.{in_place, line_ok}
-use Rattle.trip_text.specs.Heard.{errand_in, LongTexts}
+use Rattle.trip_text.specs.Heard.{errand_at, errand_in, LongTexts}
 use Rattle.trip_text.proofs.Forms.{f, refuses, printed_as, printed_is}
 use Rattle.trip_text.proofs.Words.{placed_long}
 use Rattle.trip_text.proofs.Pieces.{split_some}
@@ -152,7 +152,7 @@ module _ (text : List ℕ) (k : ℕ) (lt : 4230 < k) (cut : k < length text) whe
     same_first = first_is front (end front) (found front) inside_front ∙ ap line_ok same_line ∙ sym (first_is text (end text) (found text) inside)
 
     same_sizes : sizes_ok (f front) ≡ sizes_ok (f text)
-    unfolding errand_in
+    unfolding errand_at errand_in
     same_sizes = ap (λ (l : List ℕ). sizes_ok (record { width = field l 0; height = field l 1 }))
         (line_is front (end front) (found front) inside_front ∙ same_line ∙ sym (line_is text (end text) (found text) inside))
 

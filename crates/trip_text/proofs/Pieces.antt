@@ -58,7 +58,7 @@ module _ (b : ℕ) where
     | inr t ↦ rw (last_piece l (ltb-false (index_of b l) (length l) t)) (omega arith)
   ]
 
-  index_within : (l : List ℕ) → index_of b l ≤ length l
+  pub index_within : (l : List ℕ) → index_of b l ≤ length l
   unfolding index_of index_after
   index_within [] = omega arith
   index_within (x ∷ l) = at (eqb x b) (index_within l)

@@ -10,28 +10,38 @@ use native.Mathlib.Nat.{mod-lt, div-add-mod', div-lt_iff_lt-mul}
 use native.Mathlib.Numerals.{add-one}
 use lib.Dec.{eqb}
 use lib.ListN.{length, get_or, take, drop, length-drop, drop_of_length-le}
-use lib.Seq.{length-take-le, take-length, get_or-take, get_or-drop}
+use lib.Seq.{drop-drop, length-take-le, take-length, get_or-take, get_or-drop}
 use borrow.Author.Tests.{eqb-true, eqb-false, eq-eqb, ne_eqb}
+use mir.Val.{bool_byte}
+use Rattle.std.specs.Bool.{MatchBool}
+use Rattle.std.specs.List.{AllWithin, HoldsAt}
 use Rattle.trip_text.specs.Scan.{slice, index_of}
 use Rattle.rules.specs.Sound.{every}
 use Rattle.rules.specs.Printer.{split, row_ok}
 use Rattle.floor.specs.Floor.{byte}
 use Rattle.floor.proofs.Tools.{both, clash, and_1, and_2, and_i, refute, below_suc, same_test}
 use Rattle.theory.proofs.Soundness.{every_at, every_i}
-use Rattle.refusals.proofs.Flags.{every_all}
 use Rattle.trip_text.specs.Parts.{rest_ok, mark}
 use Rattle.trip_text.proofs.Pieces.{Cut, uncut, all_cut, end_within, the_piece, cut_on, one_more}
 
--- a row by its length and the flag of its cells
+-- a test as a number
+as_byte : (t : Bool) → bool_byte t ≡ byte t
+unfolding byte
+as_byte true = refl
+as_byte false = refl
+
+-- a row by its length and its cells
 module _ (row : List ℕ) (width : ℕ) where
   pub no_row : (length row ≡ width → ⊥) → false ≡ row_ok width row
   unfolding row_ok
   no_row h = rw (ne_eqb (length row) width h)
 
-  pub a_row : length row ≡ width → (i : ℕ) → i ≤ length row → length row ≤ i → (ok : Bool) → ok ≡ every i (λ x. eqb (get_or row x 0) 46 || eqb (get_or row x 0) 35)
+  pub a_row : length row ≡ width → (ok : Bool)
+      → MatchBool ok (AllWithin (λ x. (eqb x 46 || eqb x 35) ≡ true) row 0 (length row)) ((k : ℕ) × (k < length row) × HoldsAt (λ x. (eqb x 46 || eqb x 35) ≡ false) row k)
       → ok ≡ row_ok width row
   unfolding row_ok
-  a_row e i a b ok h = rw (sym e, eq-eqb (length row) (length row) refl) (every_all (λ x. eqb (get_or row x 0) 46 || eqb (get_or row x 0) 35) (length row) i ok a b h)
+  a_row e true all = sym (and_i (eq-eqb (length row) width e) (every_i width _ (λ x lt. all x 0 (omega arith) (omega (arith, e)))))
+  a_row e false bad = sym (refute _ (λ t. clash (every_at width _ (and_2 (eqb (length row) width) _ t) bad.0 (omega (arith, e, bad.1))) (bad.2 0)))
 
 -- rows read one by one
 module _ (rows : List ℕ) (w h : ℕ) where
@@ -115,6 +125,56 @@ module _ (rows : List ℕ) (w h : ℕ) where
         | inr e ↦ absurd (unended (let ne = eqb-false at (length rows) e in omega (arith, r.over, ne)) t)
       ])
 
+  -- what is left of the rows after the first i
+  pub record Left (i : ℕ) (rest : List ℕ) : Type 0 where
+    pub at : ℕ
+    pub rowing : Rowing i at
+    pub is : rest ≡ drop at rows
+
+  pub none_taken : Left 0 rows
+  none_taken = record { at = 0; rowing = none_read; is = refl }
+
+  module _ (i : ℕ) (rest : List ℕ) (l : Left i rest) where
+    -- where the next row ends
+    abbrev stop : ℕ
+    stop = l.at + index_of 10 rest
+
+    found : stop ≡ l.at + index_of 10 (slice l.at (length rows) rows)
+    unfolding slice
+    found = rw (take-length rows, ← l.is) refl
+
+    inside : stop ≤ length rows
+    inside = rw found (end_within 10 rows l.at l.rowing.over)
+
+    left_long : l.at + length rest ≡ length rows
+    left_long = let n = ap length l.is in omega (arith, n, length-drop l.at rows, l.rowing.over)
+
+    module _ (lt : i < h) where
+      pub unfed : length rest ≤ index_of 10 rest → rest_ok rows w h ≡ false
+      unfed le = sym (no_feed i l.at l.rowing stop found inside lt (omega (arith, inside, left_long, le)))
+
+      module _ (line : List ℕ) (is : line ≡ take (index_of 10 rest) rest) where
+        is_piece : line ≡ take (stop - l.at) (drop l.at rows)
+        is_piece = let wide : stop - l.at ≡ index_of 10 rest = omega arith in rw (wide, ← l.is) is
+
+        pub misdrawn : row_ok w line ≡ false → rest_ok rows w h ≡ false
+        misdrawn bad = sym (bad_row i l.at l.rowing stop found inside lt (ap (row_ok w) (sym is_piece) ∙ bad))
+
+        pub one_taken : index_of 10 rest < length rest → row_ok w line ≡ true → (after : List ℕ) → after ≡ drop (index_of 10 rest + 1) rest → Left (i + 1) after
+        one_taken some ok after next =
+            let short : stop ≡ length rows → ⊥ = λ e. omega (arith, left_long, some, e) in
+            let on : l.at + (index_of 10 rest + 1) ≡ stop + 1 = omega arith in
+            record {
+              at = stop + 1;
+              rowing = good_row i l.at l.rowing stop found inside short (ap (row_ok w) (sym is_piece) ∙ ok);
+              is = next ∙ ap (drop (index_of 10 rest + 1)) l.is ∙ rw on at (drop-drop (index_of 10 rest + 1) l.at rows);
+            }
+
+    pub all_taken : i ≡ h → eqb (length rest) 0 ≡ rest_ok rows w h
+    all_taken all = same_test _ _
+        (λ t. sym (at_end i l.at l.rowing all) ∙ eq-eqb l.at (length rows) (omega (arith, left_long, eqb-true (length rest) 0 t)))
+        (λ t. eq-eqb (length rest) 0 (omega (arith, left_long, eqb-true l.at (length rows) (at_end i l.at l.rowing all ∙ t))))
+
   -- of lawful rows, each stands w + 1 bytes after the one before
   module _ (ok : rest_ok rows w h ≡ true) where
     row_long : (j : ℕ) → j < h → length (row j) ≡ w
@@ -161,10 +221,7 @@ module _ (rows : List ℕ) (w h : ℕ) where
           ap (λ (i : ℕ). get_or rows i 0) (sym place) ∙ sym (get_or-drop p rows (x % w) 0)
           ∙ sym (ap (λ (l : List ℕ). get_or l (x % w) 0) (next (x / w) p there) ∙ get_or-take (end (x / w) p there - p) (drop p rows) (x % w) 0 (omega (arith, wide, mod-lt x some)))
 
-      pub marked : get_or rows (x + x / w) 0 ≡ 35 → 1 ≡ byte (mark rows w x)
+      -- the plan's byte of the cell
+      pub marks : bool_byte (eqb (get_or rows (x + x / w) 0) 35) ≡ byte (mark rows w x)
       unfolding mark byte
-      marked e = rw (eq-eqb (get_or (row (x / w)) (x % w) 0) 35 (sym cell_at ∙ e))
-
-      pub unmarked : (get_or rows (x + x / w) 0 ≡ 35 → ⊥) → 0 ≡ byte (mark rows w x)
-      unfolding mark byte
-      unmarked h = rw (ne_eqb (get_or (row (x / w)) (x % w) 0) 35 (λ e. h (cell_at ∙ e)))
+      marks = rw cell_at (as_byte (eqb (get_or (row (x / w)) (x % w) 0) 35))

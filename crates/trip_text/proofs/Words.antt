@@ -2,8 +2,8 @@
 use Prim.Native.Nat.{ℕ, ◌+◌, ◌-◌, ◌*◌, ◌^◌, ◌≤◌, ◌<◌}
 use mathlib.Core.Path.{◌≡◌, ◌∙◌, refl, sym, ap}
 use mathlib.Core.Logic.{inl, inr}
-use mathlib.Core.Bool.{Bool, true, false, ◌&&◌}
-use mathlib.Core.List.{List}
+use mathlib.Core.Bool.{Bool, true, false, ◌&&◌, true≢false}
+use mathlib.Core.List.{List, [], ◌∷◌}
 use native.Mathlib.Omega.{arith}
 use native.Mathlib.Nat.{pow-zero, pow-suc, pow-le-pow_right}
 use native.Mathlib.Numerals.{add-one}
@@ -16,39 +16,29 @@ use Rattle.floor.proofs.Tools.{both, clash, and_1, and_2, and_i, refute, below_s
 use Rattle.rules.specs.Sound.{every}
 use Rattle.rules.specs.Printer.{ascii, is_number, value_of}
 use Rattle.theory.proofs.Soundness.{every_at, every_i}
-use Rattle.trip_text.specs.declared.Word.{Word, TheVariants.Number, TheVariants.Fault}
-use Rattle.trip_text.specs.Parts.{number_in, in_place}
+use Rattle.std.specs.Prelude.{Option, Some, None}
+use Rattle.std.specs.Borrow.{Bor}
+use Rattle.std.specs.Option.{option_eq}
+use lib.Pointwise.{pointwise}
+use Rattle.trip_text.specs.Parts.{number_in, in_place, said}
 
-pub no_number : (w : List ℕ) → is_number w ≡ false → Fault ≡ number_in w
+pub no_number : (w : List ℕ) → is_number w ≡ false → None ≡ number_in w
 unfolding number_in
 no_number w e = rw (e, number_in)
 
-pub a_number : (w : List ℕ) → is_number w ≡ true → Number (value_of 0 w) ≡ number_in w
+pub a_number : (w : List ℕ) → is_number w ≡ true → Some (value_of 0 w) ≡ number_in w
 unfolding number_in
 a_number w e = rw (e, number_in)
 
 -- and back: what was said tells of the word
-lawful : Word → Bool
-lawful (Number n) = true
-lawful Fault = false
+pub fault_said : (w : List ℕ) → None ≡ number_in w → is_number w ≡ false
+fault_said w e = refute (is_number w) (λ t. let some = a_number w t in cc)
 
-value : Word → ℕ
-value (Number n) = n
-value Fault = 0
-
-numbered : (w : List ℕ) → lawful (number_in w) ≡ is_number w
-unfolding number_in lawful
-numbered w = elim (both (is_number w)) [ inl e ↦ rw (e, number_in) | inr e ↦ rw (e, number_in) ]
-
-pub fault_said : (w : List ℕ) → Fault ≡ number_in w → is_number w ≡ false
-unfolding lawful
-fault_said w e = sym (numbered w) ∙ ap lawful (sym e)
-
-pub number_said : (w : List ℕ) (n : ℕ) → Number n ≡ number_in w → (is_number w ≡ true) × (n ≡ value_of 0 w)
-unfolding lawful value
-number_said w n e =
-    let is : is_number w ≡ true = sym (numbered w) ∙ ap lawful (sym e) in
-    (is, ap value (e ∙ sym (a_number w is)))
+pub number_said : (w : List ℕ) (n : ℕ) → Some n ≡ number_in w → (is_number w ≡ true) × (n ≡ value_of 0 w)
+number_said w n e = elim (both (is_number w)) [
+  | inl t ↦ let some = a_number w t in (t, cc)
+  | inr f ↦ let none = no_number w f in absurd (cc)
+]
 
 -- a byte is a digit
 unfoldable pub digit : ℕ → Bool
@@ -80,10 +70,10 @@ module _ (w : List ℕ) where
   unfolding is_number digit
   each_digit e = every_at (length w) _ (and_2 (up_to 9 (length w)) _ e)
 
-  pub empty : length w ≡ 0 → Fault ≡ number_in w
+  pub empty : length w ≡ 0 → None ≡ number_in w
   empty e = no_number w (refute _ (λ t. omega (arith, some_digits t)))
 
-  pub too_long : 9 < length w → Fault ≡ number_in w
+  pub too_long : 9 < length w → None ≡ number_in w
   too_long lt = no_number w (refute _ (λ t. omega (arith, few_digits t)))
 
   pub none_read : (length w ≡ 0 → ⊥) → length w ≤ 9 → Read w 0 0
@@ -97,21 +87,21 @@ module _ (w : List ℕ) where
   }
 
   module _ (value i : ℕ) (r : Read w value i) where
-    pub all_read : length w ≤ i → Number value ≡ number_in w
+    pub all_read : length w ≤ i → Some value ≡ number_in w
     unfolding is_number up_to digit value_of
     all_read le =
-        let whole : Number value ≡ Number (value_of 0 w) = ap Number (rw (drop_of_length-le w {i = i} le) at r.so_far) in
+        let whole : Some value ≡ Some (value_of 0 w) = ap Some (rw (drop_of_length-le w {i = i} le) at r.so_far) in
         whole ∙ a_number w (and_i (and_i (lt-ltb 0 (length w) r.some) (le-leb (length w) 9 r.short)) (every_i (length w) _ (λ x lt. r.digits x (omega arith))))
 
     module _ (lt : i < length w) where
-      no_digit : digit (get_or w i 0) ≡ false → Fault ≡ number_in w
+      no_digit : digit (get_or w i 0) ≡ false → None ≡ number_in w
       no_digit e = no_number w (refute _ (λ t. clash (each_digit t i lt) e))
 
-      pub too_low : get_or w i 0 < 48 → Fault ≡ number_in w
+      pub too_low : get_or w i 0 < 48 → None ≡ number_in w
       unfolding digit
       too_low h = no_digit (rw (lt-leb 48 (get_or w i 0) h))
 
-      pub too_high : 57 < get_or w i 0 → Fault ≡ number_in w
+      pub too_high : 57 < get_or w i 0 → None ≡ number_in w
       unfolding digit
       too_high h = no_digit (rw (le-leb 48 (get_or w i 0) (omega arith), lt-leb (get_or w i 0) 57 h))
 
@@ -142,11 +132,11 @@ stands_as_is : (place : ℕ) (w : List ℕ) → dashed place w ≡ false → in_
 unfolding dashed in_place
 stands_as_is place w e = rw (e, in_place)
 
-pub dash : (place : ℕ) (w : List ℕ) → place ≡ 5 → length w ≡ 1 → get_or w 0 0 ≡ 45 → Number 1 ≡ number_in (in_place place w)
+pub dash : (place : ℕ) (w : List ℕ) → place ≡ 5 → length w ≡ 1 → get_or w 0 0 ≡ 45 → Some 1 ≡ number_in (in_place place w)
 unfolding dashed number_in is_number up_to every value_of ascii
 dash place w e f g = ap number_in (sym (stands_for_1 place w (and_i (and_i (eq-eqb place 5 e) (eq-eqb (length w) 1 f)) (eq-eqb (get_or w 0 0) 45 g))))
 
-pub no_dash : (place : ℕ) (w : List ℕ) {r : Word} → r ≡ number_in w → ((place ≡ 5) × (length w ≡ 1) × (get_or w 0 0 ≡ 45) → ⊥) → r ≡ number_in (in_place place w)
+pub no_dash : (place : ℕ) (w : List ℕ) {r : Option ℕ} → r ≡ number_in w → ((place ≡ 5) × (length w ≡ 1) × (get_or w 0 0 ≡ 45) → ⊥) → r ≡ number_in (in_place place w)
 unfolding dashed
 no_dash place w e h = e ∙ ap number_in (sym (stands_as_is place w (refute (dashed place w) (λ t. h (eqb-true place 5 (search (and_1, and_2)), eqb-true (length w) 1 (search (and_1, and_2)), eqb-true (get_or w 0 0) 45 (search and_2))))))
 
@@ -157,3 +147,24 @@ placed_long place w e = elim (both (dashed place w)) [
   | inl t ↦ omega (arith, eqb-true (length w) 1 (and_2 (eqb place 5) _ (and_1 _ _ t)))
   | inr t ↦ few_digits w (rw (stands_as_is place w t) at e)
 ]
+
+-- the library's test of a word for the dash
+lone_dash : (w : List ℕ) → pointwise eqb w (45 ∷ []) ≡ true → (length w ≡ 1) × (get_or w 0 0 ≡ 45)
+lone_dash [] e = absurd (true≢false (sym e))
+lone_dash (x ∷ []) e = (refl, eqb-true x 45 (and_1 (eqb x 45) true e))
+lone_dash (x ∷ (y ∷ w)) e = absurd (true≢false (sym (and_2 (eqb x 45) false e)))
+
+dash_alone : (w : List ℕ) → length w ≡ 1 → get_or w 0 0 ≡ 45 → pointwise eqb w (45 ∷ []) ≡ true
+dash_alone [] l e = absurd (omega arith)
+dash_alone (x ∷ []) l e = and_i (eq-eqb x 45 e) refl
+dash_alone (x ∷ (y ∷ w)) l e = absurd (omega arith)
+
+pub limit_dash : (word : Option (Bor (List ℕ))) (d : Bor (List ℕ)) → d.now ≡ 45 ∷ [] → option_eq (λ x y. pointwise eqb x.now y.now) word (Some d) ≡ true
+    → Some 1 ≡ said (λ w. number_in (in_place 5 w)) word
+limit_dash None d is e = absurd (true≢false (sym e))
+limit_dash (Some w) d is e = let alone = lone_dash w.now (rw is at e) in dash 5 w.now refl alone.0 alone.1
+
+pub limit_other : (word : Option (Bor (List ℕ))) (d : Bor (List ℕ)) → d.now ≡ 45 ∷ [] → option_eq (λ x y. pointwise eqb x.now y.now) word (Some d) ≡ false
+    → said number_in word ≡ said (λ w. number_in (in_place 5 w)) word
+limit_other None d is e = refl
+limit_other (Some w) d is e = no_dash 5 w.now refl (λ h. clash (dash_alone w.now h.1 h.2) (rw is at e))

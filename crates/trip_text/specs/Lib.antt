@@ -1,3 +1,3 @@
 pub mod Scan
-pub mod Parts
 pub mod Heard
+pub mod Parts

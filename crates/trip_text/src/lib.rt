@@ -2,292 +2,231 @@
 // floor's plan.
 #![tactic(auto)]
 
-ghost use Rattle.std.specs.Prelude.{◌≡◌, true, ◌+◌, ◌≤◌, ◌<◌, length};
-ghost use Rattle.floor.specs.Floor.{sizes_ok, cells, tabulate, byte};
-ghost use Rattle.rules.specs.Printer.{field, row_ok, asked};
-ghost use Rattle.trip_text.specs.declared.Heard.TheVariants.{Asked};
-ghost use Rattle.trip_text.specs.Heard.{heard_in, fronted, ReadPromise};
-ghost use Rattle.trip_text.specs.Scan.{slice, index_of};
-ghost use Rattle.trip_text.specs.Parts.{number_in, in_place, line_ok, errand_of, rest_ok, mark, errand_refusal, judged};
+ghost use Rattle.std.specs.Prelude.{◌≡◌, true, false, ◌+◌, ◌≤◌, ◌<◌, length, take, drop, MatchOption, MatchResult, Err};
+ghost use Rattle.floor.specs.Floor.{sizes_ok, cells, tabulate, byte, prepared, refused};
+ghost use Rattle.rules.specs.Printer.{row_ok, asked};
+ghost use Rattle.trip_text.specs.Heard.{Asked, told, heard_in, fronted, ReadPromise};
+ghost use Rattle.trip_text.specs.Scan.{index_of};
+ghost use Rattle.trip_text.specs.Parts.{number_in, in_place, said, errand_of, rest_ok, mark, errand_refusal};
 
-use floor::{Floor, Lookahead, MoveLimit};
+use floor::{Floor, Grid, Lookahead, MoveLimit, Refusal, Setting};
 use refusals::{cells_hold, settings_hold};
 
-// What the first line asks for.
-#[derive(Clone, Copy)]
+/// What the first line asks for.
+#[derive(Clone, Copy, Debug, PartialEq, Eq)]
 pub struct Errand {
     pub floor: Floor,
     pub start: u32,
     pub goal: usize,
-    pub look: Lookahead,
-    pub limit: MoveLimit,
+    pub setting: Setting,
     pub allowance: usize,
 }
 
-// What is heard from a text: a text fault, a refusal by its number, or an errand.
-#[derive(Clone, Copy)]
-pub enum Heard {
+/// Why a text asks for no trip.
+#[derive(Clone, Copy, Debug, PartialEq, Eq)]
+pub enum Unheard {
     BadInput,
-    Refused(u8),
-    Asked(Errand),
+    Refused(Refusal),
 }
 
-// What a word of the first line says.
-#[derive(Clone, Copy)]
-enum Word {
-    Number(u32),
-    Fault,
+impl From<Refusal> for Unheard {
+    ghost use Rattle.std.specs.Prelude.{◌≡◌};
+    ghost use Rattle.trip_text.specs.declared.Unheard.TheVariants.{Refused};
+
+    ghost from_gives = { λ refusal unheard. unheard ≡ Refused refusal };
+
+    fn from(refusal: Refusal) -> Unheard {
+        Unheard::Refused(refusal)
+    }
 }
 
 // The largest allowance.
 const MOST_MOVES: u32 = 16384;
 
-// Where the byte first stands in text[from..to], or `to` where it stands nowhere there.
-fn find(text: &[u8], from: usize, to: usize, byte: u8) -> usize
-    requires { (from ≤ to) × (to ≤ length text.now) }
-    ensures found { result ≡ from + index_of byte (slice from to text.now) }
-    ensures inside { result ≤ to }
+// The number that a word says, where there is one: one to nine digits.
+fn number(word: Option<&[u8]>) -> Option<u32>
+    ensures { result ≡ said number_in word.entry }
 {
-    for i in from..to {
-        if text[i] == byte {
-            return i;
-        }
-    }
-    to
-}
-
-// The number that a word says: one to nine digits.
-fn number(word: &[u8]) -> Word
-    ensures { result ≡ number_in word.now }
-{
-    if word.len() == 0 {
-        return Word::Fault;
-    }
-    if 9 < word.len() {
-        return Word::Fault;
+    let word = word?;
+    if word.is_empty() || 9 < word.len() {
+        return None;
     }
     let mut value = 0;
-    for i in 0..word.len() {
-        let b = word[i];
-        if b < b'0' {
-            return Word::Fault;
+    for digit in word {
+        if !digit.is_ascii_digit() {
+            return None;
         }
-        if b'9' < b {
-            return Word::Fault;
-        }
-        value = value * 10 + (b - b'0') as u32;
+        value = value * 10 + u32::from(*digit - b'0');
     }
-    Word::Number(value)
+    Some(value)
 }
 
-// What the word in a place of the first line says: a number, or as limit a dash, which stands for 1.
-fn word_in(place: usize, word: &[u8]) -> Word
-    ensures { result ≡ number_in (in_place place word.now) }
+// The limit that a word says: a number, or a dash, which stands for 1.
+fn limit(word: Option<&[u8]>) -> Option<u32>
+    ensures { result ≡ said (λ w. number_in (in_place 5 w)) word.entry }
 {
-    if place != 5 {
-        return number(word);
+    if word == Some(b"-".as_slice()) {
+        Some(1)
+    } else {
+        number(word)
     }
-    if word.len() != 1 {
-        return number(word);
-    }
-    if word[0] != b'-' {
-        return number(word);
-    }
-    Word::Number(1)
 }
 
-// Whether a first line is lawful; its seven numbers are then in `fields`.
-fn first_line(line: &[u8], fields: &mut [u32]) -> bool
-    requires { length fields.old ≡ 7 }
-    ensures value { result ≡ line_ok line.now }
-    ensures fields_after { result ≡ true → fields.new ≡ tabulate 7 (field line.now) }
+// What a first line asks for, if it is lawful.
+fn first_line(line: &[u8]) -> Option<Errand>
+    ensures { result ≡ errand_of line.now }
 {
-    let mut at = 0;
-    for i in 0..7 {
-        if line.len() < at {
-            return false;
-        }
-        let stop = find(line, at, line.len(), b' ');
-        let Word::Number(n) = word_in(i, &line[at..stop]) else {
-            return false;
-        };
-        fields[i] = n;
-        at = stop + 1;
+    let mut words = line.split(|byte| *byte == b' ');
+    let width = number(words.next())?;
+    let height = number(words.next())?;
+    let start = number(words.next())?;
+    let goal = number(words.next())?;
+    let look = number(words.next())?;
+    let limit = limit(words.next())?;
+    let allowance = number(words.next())?;
+    if words.next().is_some() || MOST_MOVES < allowance {
+        return None;
     }
-    if at <= line.len() {
-        return false;
-    }
-    fields[6] <= MOST_MOVES
-}
-
-// What the seven numbers of a first line ask for.
-fn errand_of(fields: [u32; 7]) -> Errand
-    ensures { result ≡ errand_of fields }
-{
-    Errand {
+    Some(Errand {
         floor: Floor {
-            width: fields[0] as usize,
-            height: fields[1] as usize,
+            width: width as usize,
+            height: height as usize,
         },
-        start: fields[2],
-        goal: fields[3] as usize,
-        look: Lookahead(fields[4] as usize),
-        limit: MoveLimit(fields[5] as usize),
-        allowance: fields[6] as usize,
-    }
+        start,
+        goal: goal as usize,
+        setting: Setting {
+            look: Lookahead(look as usize),
+            limit: MoveLimit(limit as usize),
+        },
+        allowance: allowance as usize,
+    })
+}
+
+// A text up to its first line feed, and what follows it.
+fn cut(text: &[u8]) -> Option<(&[u8], &[u8])>
+    ensures { MatchOption result (length text.now ≤ index_of 10 text.now)
+        (λ parts. (index_of 10 text.now < length text.now)
+        × (parts.0.now ≡ take (index_of 10 text.now) text.now)
+        × (parts.1.now ≡ drop (index_of 10 text.now + 1) text.now)) }
+{
+    let end = text.iter().position(|byte| *byte == b'\n')?;
+    Some((&text[..end], &text[end + 1..]))
 }
 
 // Whether a line is a row of `width` cells.
-fn row_holds(row: &[u8], width: usize) -> bool
-    ensures { result ≡ row_ok width row.now }
+fn is_row(line: &[u8], width: usize) -> bool
+    ensures { result ≡ row_ok width line.now }
 {
-    if row.len() != width {
-        return false;
-    }
-    let mut ok = true;
-    for i in 0..row.len() {
-        ok = ((row[i] == b'.') | (row[i] == b'#')) & ok;
-    }
-    ok
+    line.len() == width && line.iter().all(|byte| *byte == b'.' || *byte == b'#')
 }
 
-// Whether what follows the first line is the floor's rows, and nothing after them.
-fn rows_hold(rows: &[u8], floor: Floor) -> bool
-    ensures { result ≡ rest_ok rows.now floor.width floor.height }
-{
-    let mut at = 0;
-    for _ in 0..floor.height {
-        let stop = find(rows, at, rows.len(), b'\n');
-        if stop == rows.len() {
-            return false;
+// The rows of a grid's plan, and nothing after them.
+#[derive(Clone, Copy)]
+struct Drawing<'a> {
+    text: &'a [u8],
+    grid: Grid,
+    ghost lawful: { rest_ok text.now grid.floor.width grid.floor.height ≡ true },
+}
+
+impl<'a> Drawing<'a> {
+    // The grid's rows, if the text is that.
+    fn of(text: &'a [u8], grid: Grid) -> Option<Drawing<'a>>
+        ensures { MatchOption result (rest_ok text.now grid.floor.width grid.floor.height ≡ false)
+            (λ drawing. (drawing.text.now ≡ text.now) × (drawing.grid.floor ≡ grid.floor)) }
+    {
+        let mut rest = text;
+        for _ in 0..grid.floor.height {
+            let (line, after) = cut(rest)?;
+            if !is_row(line, grid.floor.width) {
+                return None;
+            }
+            rest = after;
         }
-        if !row_holds(&rows[at..stop], floor.width) {
-            return false;
+        if !rest.is_empty() {
+            return None;
         }
-        at = stop + 1;
+        Some(Drawing { text, grid })
     }
-    at == rows.len()
+
+    // The plan's byte of a cell. Each row before the cell's has a line feed more than cells.
+    fn cell_byte(self, cell: usize) -> u8
+        requires { cell < cells self.grid.floor }
+        ensures { result ≡ byte (mark self.entry.text.now self.entry.grid.floor.width cell) }
+    {
+        u8::from(self.text[cell + cell / self.grid.floor.width] == b'#')
+    }
+
+    // The first of the refusals 3, 4 and 8: with sizes that hold, a fresh trip meets no other.
+    fn check(self, errand: Errand) -> Result<(), Refusal>
+        requires { errand.floor ≡ self.grid.floor }
+        ensures { refused result ≡ errand_refusal self.entry.text.now errand }
+    {
+        let start = errand.start as usize;
+        if !cells_hold(self.grid.cells(), start, errand.goal) {
+            return Err(Refusal::Cells);
+        }
+        if !settings_hold(errand.setting) {
+            return Err(Refusal::Settings);
+        }
+        if self.cell_byte(start) == 1 {
+            return Err(Refusal::Blocked);
+        }
+        Ok(())
+    }
+
+    // Draws the plan, and a known map that is all open.
+    fn draw(self, plan: &mut [u8], known: &mut [u8])
+        requires { (length plan.old ≡ cells self.grid.floor) × (length known.old ≡ cells self.grid.floor) }
+        ensures plan { plan.new ≡ tabulate (cells self.entry.grid.floor) (λ x. byte (mark self.entry.text.now self.entry.grid.floor.width x)) }
+        ensures known { known.new ≡ tabulate (cells self.entry.grid.floor) (λ x. 0) }
+    {
+        for (cell, byte) in plan.iter_mut().enumerate() {
+            *byte = self.cell_byte(cell);
+        }
+        known.fill(0);
+    }
 }
 
-// The plan's byte of a cell. Each row before the cell's has a line feed more than cells.
-fn cell_byte(rows: &[u8], floor: Floor, cell: usize) -> u8
-    requires height_value { rest_ok rows.now floor.width floor.height ≡ true }
-    requires floor_value { (sizes_ok floor ≡ true) × (cell < cells floor) }
-    ensures { result ≡ byte (mark rows.now floor.width cell) }
+// The trip that a text asks for, judged in the document's order: the first line's text, refusal 1, the rows' text, the other refusals.
+fn hear(text: &[u8]) -> Result<(Errand, Drawing<'_>), Unheard>
+    ensures { MatchResult result (λ trip. (heard_in text.now ≡ Asked trip.0)
+        × (trip.1.grid.floor ≡ trip.0.floor) × (trip.1.text.now ≡ drop (index_of 10 text.now + 1) text.now))
+        (λ unheard. told (Err unheard) ≡ heard_in text.now) }
 {
-    if rows[cell + cell / floor.width] == b'#' {
-        return 1;
-    }
-    0
+    let (line, rest) = cut(text).ok_or(Unheard::BadInput)?;
+    let errand = first_line(line).ok_or(Unheard::BadInput)?;
+    let grid = errand.floor.grid()?;
+    let drawing = Drawing::of(rest, grid).ok_or(Unheard::BadInput)?;
+    drawing.check(errand)?;
+    Ok((errand, drawing))
 }
 
-// The first of the refusals 3, 4 and 8, or 0: with sizes that hold, a fresh trip meets no other.
-fn errand_check(rows: &[u8], errand: Errand) -> u8
-    requires height_value { rest_ok rows.now errand.floor.width errand.floor.height ≡ true }
-    requires floor_value { sizes_ok errand.floor ≡ true }
-    ensures { result ≡ errand_refusal rows.now errand }
+// Lays out a trip at the front of what is lent: its plan, a known map that is all open, and prepared estimates.
+fn lay(errand: Errand, drawing: Drawing<'_>, plan: &mut [u8], known: &mut [u8], est: &mut [u16])
+    requires floor { drawing.grid.floor ≡ errand.floor }
+    requires goal { errand.goal < cells errand.floor }
+    requires lent { (length plan.old ≡ 4096) × (length known.old ≡ 4096) × (length est.old ≡ 4096) }
+    ensures plan { plan.new ≡ fronted (tabulate (cells errand.floor) (λ x. byte (mark drawing.entry.text.now errand.floor.width x))) plan.old }
+    ensures known { known.new ≡ fronted (tabulate (cells errand.floor) (λ x. 0)) known.old }
+    ensures est { est.new ≡ fronted (prepared errand.floor errand.goal) est.old }
 {
-    let floor = errand.floor;
-    let start = errand.start as usize;
-    if !cells_hold(floor.cells(), start, errand.goal) {
-        return 3;
-    }
-    if !settings_hold(errand.look, errand.limit) {
-        return 4;
-    }
-    if cell_byte(rows, floor, start) == 1 {
-        return 8;
-    }
-    0
+    let cells = drawing.grid.cells();
+    drawing.draw(&mut plan[..cells], &mut known[..cells]);
+    // Sizes, length and goal were judged when the text was heard, so this is no refusal.
+    let _ = floor::prepare(errand.floor, errand.goal, &mut est[..cells]);
 }
 
-// What a lawful first line and the rows come to, in the document's order: refusal 1, the rows' text, the other refusals.
-fn judge(rows: &[u8], errand: Errand) -> Heard
-    ensures { result ≡ judged rows.now errand }
-{
-    let floor = errand.floor;
-    if !floor.sizes_hold() {
-        return Heard::Refused(1);
-    }
-    if !rows_hold(rows, floor) {
-        return Heard::BadInput;
-    }
-    let refused = errand_check(rows, errand);
-    if refused != 0 {
-        return Heard::Refused(refused);
-    }
-    Heard::Asked(errand)
-}
-
-// Room for the seven numbers of a first line.
-fn new_fields() -> [u32; 7]
-    ensures { 7 ≡ length result }
-{
-    [0u32; 7]
-}
-
-// What a text asks for.
-fn hear(text: &[u8]) -> Heard
-    ensures { result ≡ heard_in text.now }
-{
-    let end = find(text, 0, text.len(), b'\n');
-    if end == text.len() {
-        return Heard::BadInput;
-    }
-    let mut fields = new_fields();
-    if !first_line(&text[..end], &mut fields) {
-        return Heard::BadInput;
-    }
-    let errand = errand_of(fields);
-    judge(&text[end + 1..], errand)
-}
-
-// Draws the plan, and a known map that is all open.
-fn draw(rows: &[u8], floor: Floor, plan: &mut [u8], known: &mut [u8])
-    requires height_value { rest_ok rows.now floor.width floor.height ≡ true }
-    requires floor_value { sizes_ok floor ≡ true }
-    requires plan_len { (length plan.old ≡ cells floor) × (length known.old ≡ cells floor) }
-    ensures plan_after { plan.new ≡ tabulate (cells floor) (λ x. byte (mark rows.now floor.width x)) }
-    ensures known_after { known.new ≡ tabulate (cells floor) (λ x. 0) }
-{
-    for x in 0..plan.len() {
-        plan[x] = cell_byte(rows, floor, x);
-        known[x] = 0;
-    }
-}
-
-// Lays out the trip that a text asks for at the front of what is lent: its plan, a known map that is all open, and prepared estimates.
-fn lay(text: &[u8], errand: Errand, plan: &mut [u8], known: &mut [u8], est: &mut [u16])
-    requires text_value { heard_in text.now ≡ Asked errand }
-    requires plan_len { (length plan.old ≡ 4096) × (length known.old ≡ 4096) × (length est.old ≡ 4096) }
-    ensures plan_after { plan.new ≡ fronted (asked text.now).plan plan.old }
-    ensures known_after { known.new ≡ fronted (asked text.now).stand.known known.old }
-    ensures est_after { est.new ≡ fronted (asked text.now).stand.est est.old }
-{
-    let floor = errand.floor;
-    let n = floor.cells();
-    let end = find(text, 0, text.len(), b'\n');
-    draw(&text[end + 1..], floor, &mut plan[..n], &mut known[..n]);
-    floor::prepare(floor, errand.goal, &mut est[..n]);
-}
-
-// Entry: what any bytes ask for. Where they ask for a trip, its plan, its known map and its estimates are laid out at the front of what
-// was lent; else nothing is written.
+/// Entry: what any bytes ask for. Where they ask for a trip, its plan, its known map and its estimates are laid out at the front of what
+/// was lent; else nothing is written.
 pub fn read(
     text: &[u8],
     plan: &mut [u8; 4096],
     known: &mut [u8; 4096],
     est: &mut [u16; 4096],
-) -> Heard
-    ensures { ReadPromise text.now plan.old known.old est.old result
-        plan.new known.new est.new }
+) -> Result<Errand, Unheard>
+    ensures { ReadPromise text.now plan.old known.old est.old result plan.new known.new est.new }
 {
-    match hear(text) {
-        Heard::BadInput => Heard::BadInput,
-        Heard::Refused(n) => Heard::Refused(n),
-        Heard::Asked(errand) => {
-            lay(text, errand, plan, known, est);
-            Heard::Asked(errand)
-        }
-    }
+    let (errand, drawing) = hear(text)?;
+    lay(errand, drawing, plan, known, est);
+    Ok(errand)
 }

@@ -1,11 +1,11 @@
--- What the tests of the records from here on come to is what the whole file comes to. The measure is the records left.
-use Rattle.std.proofs.Common.{◌≡◌, ◌-◌, ◌≤◌}
+-- What the tests of the records from here on come to is what the whole file comes to, and the serial that is due is known.
+use Rattle.std.proofs.Common.{◌≡◌, ◌/◌, length}
 use Rattle.rules.specs.Record.{count_refusal}
-use Rattle.records.proofs.Testing.{rest}
+use Rattle.records.proofs.Testing.{rest, due}
 use Rattle.records.proofs.check.Given as goal
 
-abbrev pub invariant-loop-number : goal.invariant-loop-number
-invariant-loop-number l = (l.number ≤ l.number-end) × (count_refusal l.bytes ≡ rest l.bytes l.number-end l.number)
-
-abbrev pub decreases-loop-number : goal.decreases-loop-number
-decreases-loop-number l = l.number-end - l.number
+abbrev pub invariant-loop-record : goal.invariant-loop-record
+invariant-loop-record l = record {
+  tested : count_refusal l.bytes ≡ rest l.bytes (length l.bytes / 24) l.record-index;
+  due : l.due ≡ due l.bytes l.record-index;
+}

@@ -11,5 +11,5 @@ returns-then-not-values_hold c = no_values _ _ c.if-room-ne-SIZE.false (sym c.va
 
 pub returns : goal.returns
 returns c =
-    let out = c.copy_from_slice.ensures.after ∙ c.layout-laid.ensures in
-    rw (c.next_serial.ensures, out) (write_done _ _ c.if-room-ne-SIZE.false (sym c.values_hold.ensures ∙ c.if-not-values_hold.false))
+    let laid = c.copy_from_slice.ensures.after ∙ c.from.ensures in
+    rw (c.next_serial.ensures, laid) (write_done _ _ c.if-room-ne-SIZE.false (sym c.values_hold.ensures ∙ c.if-not-values_hold.false))

@@ -1,29 +1,60 @@
--- The first line ends at the first line feed; what follows it is judged with what it asks for.
-use Prim.Native.Nat.{◌+◌}
-use mathlib.Core.Path.{◌∙◌, sym, ap₂}
-use native.Mathlib.Omega.{arith}
-use lib.Seq.{length-take-le}
-use Rattle.trip_text.specs.Parts.{judged}
-use Rattle.trip_text.proofs.Asking.{rest_whole, endless, no_line, heard_by}
+-- The document's order: the first line's text, refusal 1, the rows' text, the other refusals.
+use Rattle.std.proofs.Common.{◌∙◌, sym}
+use Rattle.floor.specs.Floor.{refused}
+use Rattle.floor.proofs.Unique.{some_number}
+use Rattle.trip_text.specs.Heard.{told}
+use Rattle.trip_text.specs.declared.Unheard.TheVariants.{BadInput}
+use Rattle.trip_text.proofs.Hearing as hearing
+use Rattle.trip_text.proofs.Hearing.{not_ok, by_err, unfed, no_errand, bad_sizes}
 use Rattle.trip_text.proofs.hear.Goals as goal
 
-pub find-end-requires : goal.find-end-requires
-find-end-requires c = (omega arith, omega arith)
+pub returns-in_err-line : goal.returns-in_err-line
+unfolding told
+returns-in_err-line c =
+    let no = not_ok c.cut.result BadInput _ (sym c.ok_or.ensures.value ∙ c.in_err-line.was) in
+    let far = rw no.0 at c.cut.ensures in
+    by_err _ _ _ _ c.from_residual.ensures (λ u is. rw (is, no.1) (unfed _ far))
 
-pub returns-then-end-text : goal.returns-then-end-text
-returns-then-end-text c = endless _ _ c.find-end.ensures.found c.if-end-text.true
+pub returns-in_err-errand : goal.returns-in_err-errand
+unfolding told
+returns-in_err-errand c =
+    let parts = rw c.in_ok-line.ensures.ok_part at c.cut.ensures in
+    let no = not_ok c.first_line.result BadInput _ (sym c.ok_or-2.ensures.value ∙ c.in_err-errand.was) in
+    by_err _ _ _ _ c.from_residual-in_err-errand.ensures (λ u is. rw (is, no.1) (no_errand _ _ _ parts.0 parts.1 parts.2 (sym c.first_line.ensures ∙ no.0)))
 
-pub returns-then-not-first_line : goal.returns-then-not-first_line
-returns-then-not-first_line c = no_line _ _ c.find-end.ensures.found (omega (arith, c.find-end.ensures.inside, c.if-end-text.false)) (sym (c.if-not-first_line.true) ∙ c.first_line.ensures.value)
+pub returns-in_err-grid : goal.returns-in_err-grid
+unfolding told
+returns-in_err-grid c =
+    let parts = rw c.in_ok-line.ensures.ok_part at c.cut.ensures in
+    by_err _ _ _ _ c.from_residual-in_err-grid.ensures (λ u is. rw (is, c.in_err-grid.ensures.refuses.0) (bad_sizes _ _ _ parts.0 parts.1 parts.2 _ (sym c.first_line.ensures ∙ c.in_ok-errand.ensures.ok_part) c.in_err-grid.ensures.refuses.1))
 
-pub slice_bounds-judge-count : goal.slice_bounds-judge-count
-slice_bounds-judge-count c = omega (arith, c.find-end.ensures.inside, c.if-end-text.false)
+pub returns-in_err-drawing : goal.returns-in_err-drawing
+unfolding told
+returns-in_err-drawing c =
+    let parts = rw c.in_ok-line.ensures.ok_part at c.cut.ensures in
+    let no = not_ok c.of.result BadInput _ (sym c.ok_or-3.ensures.value ∙ c.in_err-drawing.was) in
+    let same = c.in_ok-grid.ensures.same in
+    let bad = rw no.0 at c.of.ensures in
+    by_err _ _ _ _ c.from_residual-in_err-drawing.ensures (λ u is. rw (is, no.1) (hearing.bad_rows _ _ _ parts.0 parts.1 parts.2 _ (sym c.first_line.ensures ∙ c.in_ok-errand.ensures.ok_part) (rw same at c.in_ok-grid.grid.sized) (rw same at bad)))
 
-pub slice_bounds-judge-start : goal.slice_bounds-judge-start
-slice_bounds-judge-start c = omega (arith, c.find-end.ensures.inside, c.if-end-text.false)
+pub returns-in_err-check : goal.returns-in_err-check
+unfolding told refused
+returns-in_err-check c =
+    let parts = rw c.in_ok-line.ensures.ok_part at c.cut.ensures in
+    let drawn = rw c.in_ok-drawing.ensures.ok_part at c.of.ensures in
+    let same = drawn.1 ∙ c.in_ok-grid.ensures.same in
+    by_err _ _ _ _ c.from_residual-in_err-check.ensures (λ u is.
+    rw is (hearing.refused _ _ _ parts.0 parts.1 parts.2 _ (sym c.first_line.ensures ∙ c.in_ok-errand.ensures.ok_part) (rw same at c.in_ok-drawing.drawing.grid.sized)
+    (rw (drawn.0, same) at c.in_ok-drawing.drawing.lawful) _ (rw drawn.0 at c.in_err-check.ensures) (some_number _)))
 
 pub returns : goal.returns
-returns c = c.judge.ensures ∙ ap₂ judged (rest_whole (c.find-end.result + 1) c.args.text.now) c.errand_of-errand.ensures ∙ heard_by _ _ c.find-end.ensures.found (omega (arith, c.find-end.ensures.inside, c.if-end-text.false)) (sym (c.if-not-first_line.false) ∙ c.first_line.ensures.value) _ (c.first_line.ensures.fields_after (c.if-not-first_line.false))
-
-pub slice_bounds-first_line-end : goal.slice_bounds-first_line-end
-slice_bounds-first_line-end c = sym (length-take-le _ _ c.find-end.ensures.inside)
+unfolding refused
+returns c =
+    let parts = rw c.in_ok-line.ensures.ok_part at c.cut.ensures in
+    let drawn = rw c.in_ok-drawing.ensures.ok_part at c.of.ensures in
+    let same = drawn.1 ∙ c.in_ok-grid.ensures.same in (
+      sym (hearing.taken _ _ _ parts.0 parts.1 parts.2 _ (sym c.first_line.ensures ∙ c.in_ok-errand.ensures.ok_part) (rw same at c.in_ok-drawing.drawing.grid.sized)
+          (rw (drawn.0, same) at c.in_ok-drawing.drawing.lawful) (rw drawn.0 at c.in_ok-check.ensures)),
+      same,
+      drawn.0 ∙ parts.2,
+    )

@@ -1,33 +1,35 @@
-use native.Mathlib.Omega.{arith}
+use Rattle.std.proofs.Common.{◌∙◌, sym, arith}
+use mathlib.Core.Logic.{inl, inr}
+use borrow.Author.Tests.{eqb-true, eqb-false}
 use Rattle.trip_text.proofs.Words.{empty, too_long, none_read, all_read, too_low, too_high, fits, one_more}
+use Rattle.trip_text.proofs.number.Goals.{then-is_empty-via-then-is_empty, then-is_empty-via-else-is_empty+then-word-gt9}
 use Rattle.trip_text.proofs.number.Goals as goal
 
-pub returns-then-word-eq0 : goal.returns-then-word-eq0
-returns-then-word-eq0 c = empty _ c.if-word-eq0.true
+pub returns-then-is_empty : goal.returns-then-is_empty
+returns-then-is_empty c = rw c.in_ok-word.was (elim c.then-is_empty.branch [
+  | then-is_empty-via-then-is_empty w ↦ empty _ (eqb-true _ _ (sym c.is_empty.ensures ∙ w.if-is_empty.true))
+  | then-is_empty-via-else-is_empty+then-word-gt9 w ↦ too_long _ (omega arith)
+])
 
-pub returns-then-word-gt9 : goal.returns-then-word-gt9
-returns-then-word-gt9 c = too_long _ (omega arith)
+pub loop-digit-init : goal.loop-digit-init
+loop-digit-init c = none_read _ (eqb-false _ _ (sym c.is_empty.ensures ∙ c.if-is_empty.false)) (omega arith)
 
-pub loop-i-init : goal.loop-i-init
-loop-i-init c = none_read _ c.if-word-eq0.false (omega arith)
-
-pub returns-then-b-lt48 : goal.returns-then-b-lt48
-returns-then-b-lt48 c = too_low _ _ _ c.loop-i.invariant c.loop-i-test.true c.if-b-lt48.true
-
-pub returns-then-b-gt57 : goal.returns-then-b-gt57
-returns-then-b-gt57 c = too_high _ _ _ c.loop-i.invariant c.loop-i-test.true c.if-b-gt57.true
+pub returns-then-not-is_ascii_digit : goal.returns-then-not-is_ascii_digit
+returns-then-not-is_ascii_digit c = rw c.in_ok-word.was (elim c.if-not-is_ascii_digit.ensures.cases [
+  | inl low ↦ too_low _ _ _ c.loop-digit.invariant c.loop-digit-test.true low
+  | inr high ↦ too_high _ _ _ c.loop-digit.invariant c.loop-digit-test.true high
+])
 
 pub overflow_mul-value : goal.overflow_mul-value
-overflow_mul-value c = omega (arith, fits _ _ _ c.loop-i.invariant c.loop-i-test.true)
-
-pub overflow_cast-value : goal.overflow_cast-value
-overflow_cast-value c = omega (arith, c.if-b-gt57.false)
+overflow_mul-value c = omega (arith, fits _ _ _ c.loop-digit.invariant c.loop-digit-test.true)
 
 pub overflow_add-value : goal.overflow_add-value
-overflow_add-value c = omega (arith, c.if-b-gt57.false, fits _ _ _ c.loop-i.invariant c.loop-i-test.true)
+overflow_add-value c = let d = c.if-not-is_ascii_digit.ensures.cases in omega (arith, fits _ _ _ c.loop-digit.invariant c.loop-digit-test.true, c.from.ensures)
 
-pub loop-i-preserved : goal.loop-i-preserved
-loop-i-preserved c = one_more _ _ _ c.loop-i.invariant c.loop-i-test.true c.if-b-lt48.false c.if-b-gt57.false
+pub loop-digit-preserved : goal.loop-digit-preserved
+loop-digit-preserved c =
+    let d = c.if-not-is_ascii_digit.ensures.cases in
+    rw c.from.ensures (one_more _ _ _ c.loop-digit.invariant c.loop-digit-test.true d.0 d.1)
 
 pub returns : goal.returns
-returns c = all_read _ _ _ c.loop-i.invariant c.loop-i-test.false
+returns c = rw c.in_ok-word.was (all_read _ _ _ c.loop-digit.invariant c.loop-digit-test.false)

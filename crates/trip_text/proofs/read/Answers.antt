@@ -1,20 +1,22 @@
 -- What is heard is answered, and only a trip is laid out.
-use mathlib.Core.Path.{◌∙◌, sym}
-use borrow.Author.Rules.{rules}
-use Rattle.trip_text.proofs.Laying.{bad_input, refused, laid_out}
+use Rattle.std.proofs.Common.{◌∙◌, sym}
+use Rattle.trip_text.specs.Heard.{told, laid}
+use Rattle.trip_text.proofs.Laying.{aims, plan_laid, known_laid, est_laid, nothing_laid}
 use Rattle.trip_text.proofs.read.Goals as goal
 
-pub lay-requires : goal.lay-requires
-lay-requires c = record {
-  text_value = sym c.hear.ensures ∙ c.in-Asked.is;
-  plan_len = search rules;
-}
+pub returns-in_err-errand : goal.returns-in_err-errand
+returns-in_err-errand c = nothing_laid _ _ _ _ _ _ c.from_residual.ensures c.in_err-errand.ensures
 
-pub returns-in-BadInput : goal.returns-in-BadInput
-returns-in-BadInput c = bad_input _ _ _ _ (sym c.in-BadInput.is ∙ c.hear.ensures)
+pub lay-requires-clause-goal : goal.lay-requires-clause-goal
+lay-requires-clause-goal c = let trip = c.in_ok-errand.ensures in aims _ _ trip.0
 
-pub returns-in-Refused : goal.returns-in-Refused
-returns-in-Refused c = refused _ _ _ _ _ (sym c.in-Refused.is ∙ c.hear.ensures)
-
-pub returns-in-Asked : goal.returns-in-Asked
-returns-in-Asked c = laid_out _ _ _ _ _ (sym c.in-Asked.is ∙ c.hear.ensures) c.lay.ensures.plan_after c.lay.ensures.known_after c.lay.ensures.est_after
+pub returns : goal.returns
+unfolding told laid
+returns c =
+    let trip = c.in_ok-errand.ensures in
+    record {
+      answers = sym trip.0;
+      draws = c.lay.ensures.plan ∙ plan_laid _ _ trip.0 _ _ trip.2;
+      opens = c.lay.ensures.known ∙ known_laid _ _ trip.0 _;
+      prepares = c.lay.ensures.est ∙ est_laid _ _ trip.0 _;
+    }
