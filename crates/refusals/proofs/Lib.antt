@@ -4,3 +4,4 @@ pub mod Folds
 pub mod Pairing
 pub mod Rowing
 pub mod Adjoining
+pub mod Answering

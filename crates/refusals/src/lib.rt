@@ -2,13 +2,13 @@
 #![tactic(auto)]
 
 ghost use Rattle.std.specs.Prelude.{◌≡◌, true, false, ◌&&◌, length, ltb, eqb, IfOk, IfErr};
-ghost use Rattle.floor.specs.Floor.{refused, up_to};
+ghost use Rattle.floor.specs.Floor.{number, refused, up_to};
 ghost use Rattle.rules.specs.Request.{setting_ok, walk_refusal};
 ghost use Rattle.refusals.specs.Given.{given};
 
 mod maps;
 
-use floor::{Floor, Refusal, Setting};
+use floor::{Floor, Grid, Refusal, Setting};
 use maps::Maps;
 
 // The largest lookahead and the largest move limit.
@@ -96,4 +96,23 @@ pub fn check(
     require(maps.within_holds(), Refusal::KnownMap)?;
     require(task.plan[cart] != 1, Refusal::Blocked)?;
     require(maps.sound_holds(task.goal), Refusal::Estimates)
+}
+
+/// The grid of a task that is accepted, or the first refusal and the cart as it was given.
+#[tactic(auto, unfolding(floor::specs::Floor::refused))]
+pub fn admit(
+    task: Task,
+    known: &[u8],
+    est: &[u16],
+    cart: usize,
+    needed: usize,
+    trail: &[u16],
+) -> Result<Grid, Refused>
+    ensures accepts { IfOk result (λ grid. (grid.floor ≡ task.entry.floor)
+        × (walk_refusal needed (given task.entry known.now est.now cart trail.now) ≡ 0)) }
+    ensures refuses { IfErr result (λ r. (r.cart ≡ cart)
+        × (number r.refusal ≡ walk_refusal needed (given task.entry known.now est.now cart trail.now))) }
+{
+    check(task, known, est, cart, needed, trail).map_err(|refusal| Refused { refusal, cart })?;
+    Ok(Grid { floor: task.floor })
 }

@@ -5,17 +5,8 @@ use Rattle.leg.proofs.Driving.{moves_short}
 use Rattle.leg.proofs.Coming.{came_driven}
 use Rattle.leg.proofs.follow.Goals as goal
 
-pub drive-drove-requires : goal.drive-drove-requires
-drive-drove-requires c = record {
-  maps = c.requires.maps;
-  ahead_value = c.requires.ahead_value;
-}
-
 pub overflow_cast-result : goal.overflow_cast-result
-overflow_cast-result c = omega (arith, moves_short _ _ _ _ _ _ _ _ _ c.drive-drove.ensures, c.requires.limit_bound.0)
-
-pub overflow_cast-result-2 : goal.overflow_cast-result-2
-overflow_cast-result-2 c = omega (arith, c.requires.limit_bound.1)
+overflow_cast-result c = omega (arith, moves_short _ _ _ _ _ _ _ _ _ c.drive-drove.ensures, c.requires.few.0)
 
 pub returns : goal.returns
 returns c = came_driven _ _ _ _ _ _ _ _ _ c.drive-drove.ensures c.ending_at.ensures refl refl refl

@@ -1,39 +1,32 @@
--- What `check` refuses is refused; what it passes is run in a room that is empty.
-use mathlib.Core.Path.{◌≡◌}
-use mathlib.Core.Bool.{true}
+-- What is refused is told; what is admitted is run in a room that is empty.
+use Rattle.std.proofs.Common.{rules, ◌≡◌}
+use Rattle.std.specs.Prelude.{Err}
 use native.Mathlib.Omega.{arith}
-use Rattle.floor.specs.Floor.{sizes_ok}
+use Rattle.rules.specs.Request.{leg_refusal}
 use Rattle.refusals.specs.Given.{given}
 use Rattle.room.proofs.Holding.{room_fits, room_ready}
-use Rattle.leg.proofs.Running.{tested, refuses, passes}
-use Rattle.leg.proofs.leg.Goals.{Else-refused-ne0}
+use Rattle.leg.proofs.Running.{refuses}
 use Rattle.leg.proofs.leg.Goals as goal
 
--- what `check` passed has sizes that hold
-sized : (c : Else-refused-ne0) → sizes_ok c.args.floor ≡ true
-unfolding given
-sized c = (tested _ _ _ _ _ _ _ _ _ (passes _ _ _ _ _ _ _ _ _ _ c.check-refused.ensures c.if-refused-ne0.false)).sized
-
-pub returns-then-refused-ne0 : goal.returns-then-refused-ne0
-returns-then-refused-ne0 c = refuses _ _ _ _ _ _ _ _ _ _ c.check-refused.ensures c.if-refused-ne0.true
+pub returns-in_err-grid : goal.returns-in_err-grid
+unfolding leg_refusal given
+returns-in_err-grid c =
+    let h = c.in_err-grid.ensures.refuses in
+    let e : c.from_residual.result ≡ Err c.in_err-grid.field-0.0 = search rules in
+    rw e (refuses c.args.task _ _ _ _ _ h.0 h.1)
 
 pub overflow_mul-n : goal.overflow_mul-n
-overflow_mul-n c = omega (arith, room_fits _ (sized (goal.at.overflow_mul-n c).Else-refused-ne0) _ c.cells-n.ensures)
+overflow_mul-n c = omega (arith, room_fits _ c.in_ok-grid.grid.sized _ c.cells-n.ensures)
 
 pub slice_bounds-room-end : goal.slice_bounds-room-end
-slice_bounds-room-end c = omega (arith, room_fits _ (sized (goal.at.slice_bounds-room-end c).Else-refused-ne0) _ c.cells-n.ensures)
+slice_bounds-room-end c = omega (arith, room_fits _ c.in_ok-grid.grid.sized _ c.cells-n.ensures)
 
 pub slice_bounds-run_leg-end : goal.slice_bounds-run_leg-end
-slice_bounds-run_leg-end c = omega (arith, c.cells-n.ensures, (room_ready _ (sized (goal.at.slice_bounds-run_leg-end c).Else-refused-ne0) _ c.cells-n.ensures _ c.new_room-room.ensures).0)
+slice_bounds-run_leg-end c = omega (arith, c.cells-n.ensures, (room_ready _ c.in_ok-grid.grid.sized _ c.cells-n.ensures _ c.new_room-room.ensures).0)
 
-pub run_leg-done-requires : goal.run_leg-done-requires
-run_leg-done-requires c = record {
-  trail_value = passes _ _ _ _ _ _ _ _ _ _ c.check-refused.ensures c.if-refused-ne0.false;
-  room_len = room_ready _ (sized (goal.at.run_leg-done-requires c).Else-refused-ne0) _ c.cells-n.ensures _ c.new_room-room.ensures;
+pub run_leg-requires : goal.run_leg-requires
+unfolding leg_refusal given
+run_leg-requires c = record {
+  accepted = c.in_ok-grid.ensures.accepts.1;
+  room = rw c.in_ok-grid.ensures.accepts.0 at (room_ready _ c.in_ok-grid.grid.sized _ c.cells-n.ensures _ c.new_room-room.ensures);
 }
-
-pub returns : goal.returns
-returns c = c.run_leg-done.ensures.leg_promise
-
-pub cells-n-requires : goal.cells-n-requires
-cells-n-requires c = sized (goal.at.cells-n-requires c).Else-refused-ne0
