@@ -22,7 +22,7 @@ did {t} {room} p =
     let none : write_refusal t room ≡ 0 = sym p.answers in
     record {
       keeps = (passed _ _ _ (passed _ _ _ none).1).0;
-      goes_on = p.serial;
+      goes_on = p.serial ∙ accepted_left none _ _;
       puts = p.writes ∙ accepted_left none _ _;
     }
 
