@@ -284,12 +284,17 @@ fn long_file(rt: &impl Print) -> io::Result<()> {
     Ok(())
 }
 
-fn main(rt: HostRuntime) -> io::Result<()> {
-    values(&rt)?;
-    serials(&rt)?;
-    order(&rt)?;
-    lengths(&rt)?;
-    numbers(&rt)?;
-    rooms(&rt)?;
-    long_file(&rt)
+fn trials(rt: &impl Print) -> io::Result<()> {
+    values(rt)?;
+    serials(rt)?;
+    order(rt)?;
+    lengths(rt)?;
+    numbers(rt)?;
+    rooms(rt)?;
+    long_file(rt)
+}
+
+// What cannot be printed ends the trials, and is not said.
+fn main(rt: HostRuntime) {
+    let _ = trials(&rt);
 }
