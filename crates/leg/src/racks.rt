@@ -1,9 +1,8 @@
 //! The racks of a floor, and what a cart learns of them: sensing, and the look along the rest of its route.
-ghost use Rattle.std.specs.Prelude.{◌≡◌, false, ℕ, ◌-◌, ◌*◌, ◌≤◌, ◌<◌, length};
+ghost use Rattle.std.specs.Prelude.{◌≡◌, false, ℕ, ◌≤◌, ◌<◌, length};
 ghost use Rattle.floor.specs.Floor.{cells, beside, neighbour, leads_to, blocked, value_at};
 ghost use Rattle.rules.specs.Leg.{barred};
-ghost use Rattle.room.specs.Layout.{route_from};
-ghost use Rattle.leg.specs.Moving.{IsKnownMap, Marked, Ahead, Looked};
+ghost use Rattle.leg.specs.Moving.{IsKnownMap, Marked, IsOnFloor, Looked};
 
 use floor::{Floor, Grid, Heading};
 
@@ -45,30 +44,22 @@ impl Racks<'_> {
         new
     }
 
-    // Senses from `cell`. Answers whether a cell of the route, from its place `from` on, is now known blocked; none was before, so the
-    // look along the route is taken only where something new was marked.
-    pub fn sense_and_look(
-        &self,
-        known: &mut [u8],
-        room: &[u16],
-        cell: usize,
-        from: usize,
-        moves: usize,
-    ) -> bool
+    // Senses from `cell`. Answers whether a cell of the rest of the route is now known blocked; none was before, so the look along it is
+    // taken only where something new was marked.
+    pub fn sense_and_look(&self, known: &mut [u8], cell: usize, rest: &[u16]) -> bool
         requires known_map { IsKnownMap self.now.grid.floor known.old × (cell < cells self.now.grid.floor) }
-        requires route { Ahead self.now.grid.floor room.now moves × (from ≤ moves) }
-        requires free { barred (blocked known.old) (route_from room.now from (moves - from)) ≡ false }
-        ensures { Looked self.now.grid.floor self.now.plan.now known.old cell
-            (route_from room.now from (moves - from)) known.new result }
+        requires on_floor { IsOnFloor self.now.grid.floor rest.now }
+        requires free { barred (blocked known.old) rest.now ≡ false }
+        ensures { Looked self.now.grid.floor self.now.plan.now known.old cell rest.now known.new result }
     {
-        self.sense(known, cell) && is_barred(self.grid, known, room, from, moves)
+        self.sense(known, cell) && is_barred(self.grid, known, rest)
     }
 }
 
-// Whether a cell of the route, from its place `from` on, is known blocked.
-fn is_barred(grid: Grid, known: &[u8], room: &[u16], from: usize, moves: usize) -> bool
-    requires { (length known.now ≡ cells grid.floor) × Ahead grid.floor room.now moves × (from ≤ moves) }
-    ensures { result ≡ barred (blocked known.now) (route_from room.now from (moves - from)) }
+// Whether a cell of the route is known blocked.
+fn is_barred(grid: Grid, known: &[u8], route: &[u16]) -> bool
+    requires { (length known.now ≡ cells grid.floor) × IsOnFloor grid.floor route.now }
+    ensures { result ≡ barred (blocked known.now) route.now }
 {
-    (from..moves).any(|place| known[usize::from(room::route_cell(room, place))] == 1)
+    route.iter().any(|cell| known[usize::from(*cell)] == 1)
 }

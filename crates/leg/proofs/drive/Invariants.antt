@@ -12,5 +12,5 @@ invariant-loop-place l =
     record {
       known_map : IsKnownMap r.grid.floor l.known;
       counted : l.drove.moves ≡ l.place;
-      going : Going (sense r.grid.floor (blocked r.plan.now)) l.limit l.room l.ahead l.cart (blocked l.initial.known) l.initial.trail l.place l.drove.cell (blocked l.known) l.trail;
+      going : Going (sense r.grid.floor (blocked r.plan.now)) l.limit l.route l.cart (blocked l.initial.known) l.initial.trail l.place l.drove.cell (blocked l.known) l.trail;
     }

@@ -6,7 +6,7 @@ use Rattle.floor.specs.Floor.{cells}
 use Rattle.floor.proofs.Geometry.{area}
 use Rattle.refusals.specs.Given.{given}
 use Rattle.leg.proofs.Marking.{map_kept}
-use Rattle.leg.proofs.Running.{tested, known_map, plan_bytes, within_most, on_goal, cut_count, cut_off, cut_blank, opened_few, route_laid, went, sound_still, free_still}
+use Rattle.leg.proofs.Running.{tested, known_map, plan_bytes, within_most, on_goal, cut_count, cut_off, opened_few, moves_few, route_laid, went, sound_still, free_still}
 use Rattle.leg.proofs.run_leg.Goals.{Start}
 use Rattle.leg.proofs.run_leg.Goals as goal
 
@@ -43,44 +43,47 @@ episode-planned-requires c =
     let off = c.if-cart-task.false in
     let t = tested c.args.task _ _ _ _ ok in
     record {
-      room = (record { few = area _ t.sized; board_long = omega (arith, t.known_long); room_long = c.requires.room.0 }, t.est_long, (within_most c.args.task _ _ _ _ ok).0, t.inside, c.requires.room.1);
-      cart_value = (free_still c.args.task _ _ _ _ ok off _ _ c.sense.ensures, sound_still c.args.task _ _ _ _ ok off _ _ c.sense.ensures);
+      long = (omega (arith, t.known_long), t.est_long);
+      cells = ((within_most c.args.task _ _ _ _ ok).0, t.inside, c.requires.clean);
+      sound = (free_still c.args.task _ _ _ _ ok off _ _ c.sense.ensures, sound_still c.args.task _ _ _ _ ok off _ _ c.sense.ensures);
     }
 
-pub stayed-requires-in-CutOff : goal.stayed-requires-in-CutOff
-stayed-requires-in-CutOff c =
-    let p = rw c.in-CutOff.is at c.episode-planned.ensures in
-    (omega (arith, on_floor (goal.at.stayed-requires-in-CutOff c).Start), omega (arith, cut_count _ _ _ _ _ c.requires.accepted c.if-cart-task.false _ _ c.sense.ensures _ _ _ p))
+pub stayed-requires-in-None : goal.stayed-requires-in-None
+stayed-requires-in-None c = (
+  omega (arith, on_floor (goal.at.stayed-requires-in-None c).Start),
+  omega (arith, cut_count c.args.task _ _ _ _ c.requires.accepted c.if-cart-task.false _ _ c.sense.ensures _ _ _ c.episode-planned.ensures c.in-None.is),
+)
+
+pub route-requires : goal.route-requires
+route-requires c = moves_few c.args.task _ _ _ _ c.requires.accepted c.if-cart-task.false _ _ c.sense.ensures _ _ _ c.episode-planned.ensures _ c.in-Some.is
 
 pub follow-requires : goal.follow-requires
 unfolding given
 follow-requires c =
     let ok = c.requires.accepted in
-    let p = rw c.in-Onward.is at c.episode-planned.ensures in
     let off = c.if-cart-task.false in
-    let l = route_laid c.args.task _ _ _ _ ok off _ _ c.sense.ensures _ _ _ _ p (c.episode-planned.auto.room ∙ c.requires.room.0) in
+    let l = route_laid c.args.task _ _ _ _ ok off _ _ c.sense.ensures _ _ _ c.episode-planned.ensures _ c.in-Some.is in
     record {
       known_map = (map_kept (known_map c.args.task _ _ _ _ ok) (omega arith) c.sense.ensures.bytes, inside (goal.at.follow-requires c).Start);
-      route = (l.lies, (tested c.args.task _ _ _ _ ok).room);
-      free = l.free;
-      few = ((within_most c.args.task _ _ _ _ ok).1, opened_few c.args.task _ _ _ _ ok off _ _ c.sense.ensures _ _ _ _ p);
+      route = (rw c.route.ensures l.on_floor, (tested c.args.task _ _ _ _ ok).room);
+      free = rw c.route.ensures l.free;
+      few = ((within_most c.args.task _ _ _ _ ok).1, opened_few c.args.task _ _ _ _ ok off _ _ c.sense.ensures _ _ _ c.episode-planned.ensures _ c.in-Some.is);
     }
 
-pub returns-in-CutOff : goal.returns-in-CutOff
-returns-in-CutOff c =
-    let p = rw c.in-CutOff.is at c.episode-planned.ensures in
+pub returns-in-None : goal.returns-in-None
+returns-in-None c =
+    let p = c.episode-planned.ensures in
     let off = c.if-cart-task.false in
     record {
-      leg_promise = rw c.stayed-in-CutOff.ensures (cut_off _ _ _ _ _ c.requires.accepted off _ _ c.sense.ensures _ _ _ p c.sense.auto.known);
-      clean = cut_blank _ _ _ _ _ c.requires.accepted off _ _ c.sense.ensures _ _ _ p;
+      leg_promise = rw c.stayed-in-None.ensures (cut_off _ _ _ _ _ c.requires.accepted off _ _ c.sense.ensures _ _ _ p c.in-None.is c.sense.auto.known);
+      clean = p.leaves.clean;
     }
 
-pub returns-in-Onward : goal.returns-in-Onward
-returns-in-Onward c =
-    let p = rw c.in-Onward.is at c.episode-planned.ensures in
+pub returns-in-Some : goal.returns-in-Some
+returns-in-Some c =
+    let p = c.episode-planned.ensures in
     let off = c.if-cart-task.false in
-    let room_kept = c.episode-planned.auto.room in
     record {
-      leg_promise = went _ _ _ _ _ c.requires.accepted off _ _ c.sense.ensures _ _ _ _ p _ _ _ (room_kept ∙ c.requires.room.0) c.follow.ensures (c.follow.auto.known ∙ c.sense.auto.known);
+      leg_promise = went _ _ _ _ _ c.requires.accepted off _ _ c.sense.ensures _ _ _ p _ c.in-Some.is _ _ _ (rw c.route.ensures at c.follow.ensures) (c.follow.auto.known ∙ c.sense.auto.known);
       clean = p.leaves.clean;
     }
