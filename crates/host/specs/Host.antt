@@ -1,8 +1,9 @@
 -- Document 01, "One leg": the cart record that the host lends, and the running totals in it.
-use Rattle.std.specs.Prelude.{ℕ, ◌+◌, min, eqb}
+use Rattle.std.specs.Prelude.{ℕ, ◌+◌, min, eqb, Result, Ok, Err}
 use mathlib.Core.{Path.◌≡◌, Bool.true, Bool.false, List.List}
 use Rattle.rules.specs.Request.{Request}
-use Rattle.leg.specs.declared.LegAnswer.{LegAnswer, TheVariants.Done, TheVariants.Refused}
+use Rattle.refusals.specs.declared.Refused.{Refused}
+use Rattle.leg.specs.declared.LegDone.{LegDone}
 use Rattle.leg.specs.Promise.{LegPromise}
 use Rattle.host.specs.declared.{Cart.Cart, Hosted.Hosted}
 
@@ -16,14 +17,14 @@ searched cell goal = elim (eqb cell goal) [ true ↦ 0 | false ↦ 1 ]
 
 -- the record after a leg: the new cell, and the totals with the leg's moves, its cells opened and itself, a cut-off leg too. A refusal
 -- leaves the record as it was
-unfoldable pub booked : Cart → ℕ → LegAnswer → Cart
-booked cart goal (Done leg) = record {
+unfoldable pub booked : Cart → ℕ → Result LegDone Refused → Cart
+booked cart goal (Ok leg) = record {
   cell = leg.cell;
   moves = capped cart.moves leg.moves;
   opened = capped cart.opened leg.opened;
   legs = capped cart.legs (searched cart.cell goal);
 }
-booked cart goal (Refused n at) = cart
+booked cart goal (Err r) = cart
 
 -- the host entry promises what a leg does, and the record after it
 pub record HostPromise (cart : Cart) (r : Request) (h : Hosted) (known est trail : List ℕ) : Type 0 where

@@ -1,18 +1,15 @@
-// One leg for a simulator's own cart: the record that it lends is moved on, and its running totals are kept.
+//! One leg for a simulator's own cart: the record that it lends is moved on, and its running totals are kept.
 #![tactic(auto)]
 
-ghost use Rattle.std.specs.Prelude.{◌≡◌};
+ghost use Rattle.std.specs.Prelude.{◌≡◌, [], ◌∷◌};
 ghost use Rattle.refusals.specs.Given.{given};
-ghost use Rattle.host.specs.Host.{capped, searched, booked, HostPromise};
+ghost use Rattle.host.specs.Host.{booked, HostPromise};
 
-use floor::{Floor, Lookahead, MoveLimit};
-use leg::{LegAnswer, leg};
+use leg::{LegDone, leg};
+use refusals::{Refused, Task};
 
-// The largest running total.
-const MOST: u32 = 4294967295;
-
-// The record that the host lends: the cart's cell, and running totals of moves, of cells opened and of legs that searched.
-#[derive(Clone, Copy)]
+/// The record that the host lends: the cart's cell, and running totals of moves, of cells opened and of legs that searched.
+#[derive(Clone, Copy, Debug, PartialEq, Eq)]
 pub struct Cart {
     pub cell: u32,
     pub moves: u32,
@@ -20,98 +17,86 @@ pub struct Cart {
     pub legs: u32,
 }
 
-// A leg's answer with the record after it.
-#[derive(Clone, Copy)]
+/// As four numbers, in the order of the fields.
+impl From<[u32; 4]> for Cart {
+    ghost from_gives = { λ numbers cart. numbers ≡ cart.cell ∷ cart.moves ∷ cart.opened ∷ cart.legs ∷ [] };
+
+    fn from(numbers: [u32; 4]) -> Cart {
+        let [cell, moves, opened, legs] = numbers;
+        Cart {
+            cell,
+            moves,
+            opened,
+            legs,
+        }
+    }
+}
+
+impl From<Cart> for [u32; 4] {
+    ghost from_gives = { λ cart numbers. numbers ≡ cart.cell ∷ cart.moves ∷ cart.opened ∷ cart.legs ∷ [] };
+
+    fn from(cart: Cart) -> [u32; 4] {
+        [cart.cell, cart.moves, cart.opened, cart.legs]
+    }
+}
+
+impl Cart {
+    // The record after a leg's answer.
+    #[tactic(auto, unfolding(crate::specs::Host::booked, crate::specs::Host::capped, crate::specs::Host::searched))]
+    fn booked(self, goal: usize, answer: Result<LegDone, Refused>) -> Cart
+        ensures { result ≡ booked self goal answer }
+    {
+        match answer {
+            Ok(done) => Cart {
+                cell: u32::from(done.cell),
+                moves: self.moves.saturating_add(u32::from(done.moves)),
+                opened: self.opened.saturating_add(u32::from(done.opened)),
+                legs: self
+                    .legs
+                    .saturating_add(u32::from(self.cell as usize != goal)),
+            },
+            Err(_) => self,
+        }
+    }
+}
+
+/// A leg's answer with the record after it.
+#[derive(Clone, Copy, Debug, PartialEq, Eq)]
 pub struct Hosted {
     pub cart: Cart,
-    pub answer: LegAnswer,
+    pub answer: Result<LegDone, Refused>,
 }
 
-// `total` and `more` together, or MOST where they would pass it.
-fn capped(total: u32, more: u16) -> u32
-    ensures { result ≡ capped total more }
-{
-    if MOST - total < more as u32 {
-        return MOST;
-    }
-    total + more as u32
-}
-
-// What a leg adds to the legs that searched: 0 on the goal, else 1.
-fn searched(cell: u32, goal: usize) -> u16
-    ensures { result ≡ searched cell goal }
-{
-    if cell as usize == goal {
-        return 0;
-    }
-    1
-}
-
-// The record after a leg's answer.
-fn booked(cart: Cart, goal: usize, answer: LegAnswer) -> Cart
-    ensures { result ≡ booked cart goal answer }
-{
-    let LegAnswer::Done(done) = answer else {
-        return cart;
-    };
-    Cart {
-        cell: done.cell as u32,
-        moves: capped(cart.moves, done.moves),
-        opened: capped(cart.opened, done.opened),
-        legs: capped(cart.legs, searched(cart.cell, goal)),
-    }
-}
-
-// One leg for a cart record by value.
+/// One leg for a cart record by value.
+#[tactic(auto, unfolding(refusals::specs::Given::given))]
 pub fn leg_for(
     cart: Cart,
-    floor: Floor,
-    plan: &[u8],
+    task: Task,
     known: &mut [u8],
     est: &mut [u16],
-    goal: usize,
-    look: Lookahead,
-    limit: MoveLimit,
     trail: &mut [u16],
 ) -> Hosted
-    ensures { HostPromise cart
-        (given floor plan.now known.old est.old cart.cell goal look limit trail.old)
-        result known.new est.new trail.new }
+    ensures { HostPromise cart (given task.entry known.old est.old cart.cell trail.old) result known.new est.new trail.new }
 {
-    let answer = leg(
-        floor,
-        plan,
-        known,
-        est,
-        cart.cell as usize,
-        goal,
-        look,
-        limit,
-        trail,
-    );
+    let answer = leg(task, known, est, cart.cell as usize, trail);
     Hosted {
-        cart: booked(cart, goal, answer),
-        answer: answer,
+        cart: cart.booked(task.goal, answer),
+        answer,
     }
 }
 
-// Entry: one leg for the host's own cart.
+/// Entry: one leg for the host's own cart.
 pub fn host_leg(
     cart: &mut Cart,
-    floor: Floor,
-    plan: &[u8],
+    task: Task,
     known: &mut [u8],
     est: &mut [u16],
-    goal: usize,
-    look: Lookahead,
-    limit: MoveLimit,
     trail: &mut [u16],
-) -> LegAnswer
-    ensures { HostPromise cart.old
-        (given floor plan.now known.old est.old cart.old.cell goal look limit trail.old)
+) -> Result<LegDone, Refused>
+    ensures { HostPromise cart.old (given task.entry known.old est.old cart.old.cell trail.old)
         (record { cart = cart.new; answer = result }) known.new est.new trail.new }
 {
-    let h = leg_for(*cart, floor, plan, known, est, goal, look, limit, trail);
-    *cart = h.cart;
-    h.answer
+    let hosted = leg_for(*cart, task, known, est, trail);
+    *cart = hosted.cart;
+    hosted.answer
 }
