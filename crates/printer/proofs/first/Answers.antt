@@ -1,16 +1,17 @@
 -- Each turn is the definition's.
 use mathlib.Core.Path.{refl}
+use Rattle.trip_text.specs.Heard.{told}
 use Rattle.printer.specs.Turns.{first_turn}
 use Rattle.printer.proofs.first.Goals as goal
 
-pub returns-in-BadInput : goal.returns-in-BadInput
-unfolding first_turn
-returns-in-BadInput c = rw c.in-BadInput.is refl
+pub returns-in-Err-BadInput : goal.returns-in-Err-BadInput
+unfolding first_turn told
+returns-in-Err-BadInput c = let field = rw c.in-Err-BadInput.is at c.in-Err-BadInput.field-0-is in rw (c.in-Err-BadInput.is, field) refl
 
-pub returns-in-Refused : goal.returns-in-Refused
-unfolding first_turn
-returns-in-Refused c = rw c.in-Refused.is refl
+pub returns-in-Err-Refused : goal.returns-in-Err-Refused
+unfolding first_turn told
+returns-in-Err-Refused c = let field = rw c.in-Err-Refused.is at c.in-Err-Refused.field-0-is in rw (c.in-Err-Refused.is, field, c.from.ensures) refl
 
-pub returns-in-Asked : goal.returns-in-Asked
-unfolding first_turn
-returns-in-Asked c = rw c.in-Asked.is refl
+pub returns-in-Ok : goal.returns-in-Ok
+unfolding first_turn told
+returns-in-Ok c = rw c.in-Ok.is refl
