@@ -39,6 +39,7 @@ impl From<Refusal> for Next {
 
     ghost from_gives = { λ refusal next. next ≡ said_by (Err refusal) };
 
+    #[tactic(auto, unfolding(crate::specs::Parts::said_by))]
     fn from(refusal: Refusal) -> Next {
         Next {
             line: Some(Line::Refused(u8::from(refusal))),
@@ -48,6 +49,7 @@ impl From<Refusal> for Next {
 }
 
 /// The first turn of what was heard.
+#[tactic(auto, unfolding(crate::specs::Turns::first_turn, trip_text::specs::Heard::told))]
 pub fn first(heard: Result<Errand, Unheard>) -> Option<Turn>
     ensures { result ≡ first_turn (told heard) }
 {
@@ -67,6 +69,7 @@ pub fn first(heard: Result<Errand, Unheard>) -> Option<Turn>
 }
 
 // The end's line, and after it the estimates.
+#[tactic(auto, unfolding(crate::specs::Turns::ended))]
 fn ended(ending: Ending, cart: Cart, n: usize) -> Next
     ensures { (known est : List ℕ) → with_maps result known est ≡ ended ending cart n known est }
 {
@@ -83,6 +86,7 @@ fn ended(ending: Ending, cart: Cart, n: usize) -> Next
 }
 
 // After a leg that was cut off comes the end, and after any other the next leg.
+#[tactic(auto, unfolding(crate::specs::Turns::after_leg))]
 fn after_leg(errand: Errand, after: Cart, ending: Ending, n: usize) -> Turn
     requires { n ≡ cells errand.floor }
     ensures { result ≡ after_leg errand after ending }
@@ -94,6 +98,7 @@ fn after_leg(errand: Errand, after: Cart, ending: Ending, n: usize) -> Turn
 }
 
 // A leg's line, and what comes after it.
+#[tactic(auto, unfolding(crate::specs::Parts::told_of))]
 fn leg_made(errand: Errand, after: Cart, done: LegDone, n: usize) -> Next
     requires { n ≡ cells errand.floor }
     ensures { result ≡ told_of errand after done }

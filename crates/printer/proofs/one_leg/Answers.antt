@@ -13,9 +13,6 @@ use Rattle.printer.proofs.one_leg.Goals as goal
 holds : (c : Start) → c.args.n ≤ 4096
 holds c = let due = c.requires.due in omega (arith, due.long, area _ due.sized)
 
-pub leg_limit-most-requires : goal.leg_limit-most-requires
-leg_limit-most-requires c = let due = c.requires.due in omega (arith, due.some)
-
 pub slice_bounds-task-end : goal.slice_bounds-task-end
 slice_bounds-task-end c = simp length-take (omega (arith, holds (goal.at.slice_bounds-task-end c).Start, c.requires.lent.plan_long))
 
@@ -30,9 +27,6 @@ slice_bounds-leg_for-end-3 c = omega (arith, holds (goal.at.slice_bounds-leg_for
 
 pub slice_bounds-leg_for-end-4 : goal.slice_bounds-leg_for-end-4
 slice_bounds-leg_for-end-4 c = simp length-take (omega (arith, holds (goal.at.slice_bounds-leg_for-end-4 c).Start, c.requires.lent.est_long))
-
-pub leg_made-requires : goal.leg_made-requires
-leg_made-requires c = c.requires.due.long
 
 -- what the leg was given is the definition's request
 hosted : (c : After-leg_for-hosted)

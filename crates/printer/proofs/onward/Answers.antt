@@ -34,10 +34,5 @@ returns-then-errand-cart c =
     c.ended-then-errand-cart.ensures _ _
     ∙ rw (long at) (sym (spent c.args.errand c.args.cart c.args.plan.now c.args.known.now c.args.est.now (sized at) c.if-cart-errand.false c.if-errand-cart.true))
 
-pub one_leg-requires-clause-due : goal.one_leg-requires-clause-due
-one_leg-requires-clause-due c =
-    let at = (goal.at.one_leg-requires-clause-due c).After-cells-n in
-    record { sized = sized at; long = long at; off = c.if-cart-errand.false; some = c.if-errand-cart.false }
-
 pub returns : goal.returns
 returns c = c.one_leg.ensures ∙ sym (on_floor _ _ _ _ _ (sized (goal.at.returns c).After-cells-n))
