@@ -4,31 +4,17 @@
 
 ghost use Rattle.std.specs.Prelude.{◌≡◌, ℕ, ◌-◌, ◌<◌, List};
 ghost use Rattle.floor.specs.Floor.{value_at, refused};
-ghost use Rattle.rules.specs.Request.{number_of};
 ghost use Rattle.refusals.specs.Answers.{refused_by, told};
 ghost use Rattle.leg.specs.Promise as leg;
 ghost use Rattle.walk.specs.Promise as walk;
 ghost use Rattle.planner.specs.Interface.{sized, asked, PrepareCall, LegCall, WalkCall, HostLegCall, RequiredCall, WriteCall, CountCall, values, ReadCall};
 
-use floor::{Ending, Floor, Lookahead, MoveLimit, Refusal, Setting};
+use floor::{Floor, Lookahead, MoveLimit, Refusal, Setting};
 use host::Cart;
 use leg::LegDone;
 use refusals::{Refused, Task};
 use rules::Trip;
 use walk::WalkDone;
-
-// The number of an ending. Its type is another crate's, so that no conversion can be written here.
-#[tactic(auto, unfolding(rules::specs::Request::number_of))]
-fn number_of(ending: Ending) -> u64
-    ensures { result ≡ number_of ending }
-{
-    match ending {
-        Ending::Arrived => 1,
-        Ending::CutOff => 2,
-        Ending::Spent => 3,
-        Ending::UnderWay => 4,
-    }
-}
 
 // What is told of a result: so many numbers, in the order of the interface.
 trait Numbers<const N: usize> {
@@ -42,10 +28,10 @@ trait Numbers<const N: usize> {
 impl Numbers<4> for LegDone {
     ghost numbers = { leg.numbers };
 
-    #[tactic(auto, unfolding(leg::specs::Promise::numbers))]
+    #[tactic(auto, unfolding(leg::specs::Promise::numbers, rules::specs::Request::number_of))]
     fn numbers(self) -> [u64; 4] {
         [
-            number_of(self.ending),
+            self.ending as u64,
             u64::from(self.cell),
             u64::from(self.moves),
             u64::from(self.opened),
@@ -57,10 +43,10 @@ impl Numbers<4> for LegDone {
 impl Numbers<5> for WalkDone {
     ghost numbers = { walk.numbers };
 
-    #[tactic(auto, unfolding(walk::specs::Promise::numbers))]
+    #[tactic(auto, unfolding(walk::specs::Promise::numbers, rules::specs::Request::number_of))]
     fn numbers(self) -> [u64; 5] {
         [
-            number_of(self.ending),
+            self.ending as u64,
             u64::from(self.cell),
             u64::from(self.moves),
             u64::from(self.legs),
@@ -111,10 +97,10 @@ fn task_of(
     limit: usize,
 ) -> Task<'_>
     ensures { result ≡ record {
-        floor = sized width height;
-        plan = plan.entry;
-        goal = goal;
-        setting = record { look = record { 0 = lookahead }; limit = record { 0 = limit } }
+      floor = sized width height;
+      plan = plan.entry;
+      goal = goal;
+      setting = record { look = record { 0 = lookahead }; limit = record { 0 = limit } };
     } }
 {
     Task {
