@@ -2,7 +2,7 @@
 ghost use Rattle.std.specs.Prelude.{◌≡◌, false, ℕ, ◌≤◌, ◌<◌, length};
 ghost use Rattle.floor.specs.Floor.{cells, beside, neighbour, leads_to, blocked, value_at};
 ghost use Rattle.rules.specs.Leg.{barred};
-ghost use Rattle.leg.specs.Moving.{IsKnownMap, Marked, IsOnFloor, Looked};
+ghost use Rattle.leg.specs.Moving.{IsKnownMap, Marked, IsOnFloor, first_blocked, Looked};
 
 use floor::{Floor, Grid, Heading};
 
@@ -52,14 +52,25 @@ impl Racks<'_> {
         requires free { barred (blocked known.old) rest.now ≡ false }
         ensures { Looked self.now.grid.floor self.now.plan.now known.old cell rest.now known.new result }
     {
-        self.sense(known, cell) && is_barred(self.grid, known, rest)
+        self.sense(known, cell) && first_blocked(self.grid, known, rest) < rest.len()
     }
 }
 
-// Whether a cell of the route is known blocked.
-fn is_barred(grid: Grid, known: &[u8], route: &[u16]) -> bool
+// The place of the first cell of the route that is known blocked, or the route's end. (A loop that yields it by `break`, and no chain,
+// since the requirements name this form: docs/sources/01-scope.md, "Required forms by place".)
+fn first_blocked(grid: Grid, known: &[u8], route: &[u16]) -> usize
     requires { (length known.now ≡ cells grid.floor) × IsOnFloor grid.floor route.now }
-    ensures { result ≡ barred (blocked known.now) route.now }
+    ensures { result ≡ first_blocked (blocked known.now) 0 route.now }
 {
-    route.iter().any(|cell| known[usize::from(*cell)] == 1)
+    let mut place = 0;
+    loop {
+        if place == route.len() {
+            break place;
+        }
+        let cell = usize::from(route[place]);
+        if known[cell] == 1 {
+            break place;
+        }
+        place += 1;
+    }
 }

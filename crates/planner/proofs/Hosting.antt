@@ -1,4 +1,4 @@
--- The host's record as four numbers: which record a list of four is, and what a leg makes of the four.
+-- The host's record as four numbers: what a leg makes of the four.
 use Prim.Native.Nat.{ℕ, zero, suc}
 use mathlib.Core.Path.{◌≡◌, ◌∙◌, refl, sym, ap}
 use mathlib.Core.List.{List, [], ◌∷◌}
@@ -10,19 +10,13 @@ use Rattle.floor.proofs.Refusing.{refused_left, accepted_left}
 use Rattle.rules.specs.Leg.{Stand}
 use Rattle.rules.specs.Request.{Request, number_of, leg_refusal, outcome, leg_of, leg_outcome}
 use Rattle.theory.proofs.Outcomes.{alike}
-use Rattle.leg.specs.declared.LegAnswer.{LegAnswer, TheVariants.Done, TheVariants.Refused}
-use Rattle.leg.specs.Promise.{refused_by, told}
+use Rattle.std.specs.Prelude.{Result, Ok, Err}
+use Rattle.refusals.specs.{declared.Refused.Refused, Answers.refused_by, Answers.told}
+use Rattle.leg.specs.declared.LegDone.{LegDone}
+use Rattle.leg.specs.Promise.{numbers}
 use Rattle.host.specs.declared.{Cart.Cart, Hosted.Hosted}
 use Rattle.host.specs.Host as host
 use Rattle.planner.specs.Interface.{four_of, booked, HostLegCall}
-
-pub four : (l : List ℕ) → length l ≡ 4 → l ≡ get_or l 0 0 ∷ get_or l 1 0 ∷ get_or l 2 0 ∷ get_or l 3 0 ∷ []
-four [] e = absurd (omega arith)
-four (a ∷ []) e = absurd (omega arith)
-four (a ∷ b ∷ []) e = absurd (omega arith)
-four (a ∷ b ∷ c ∷ []) e = absurd (omega arith)
-four (a ∷ b ∷ c ∷ d ∷ []) e = refl
-four (a ∷ b ∷ c ∷ d ∷ x ∷ l) e = absurd (omega arith)
 
 -- 0 is no ending's number
 numbered : (e : Ending) → number_of e ≡ 0 → ⊥
@@ -48,22 +42,22 @@ unfolding leg_outcome outcome
 leg_told r e = rw e refl
 
 -- the record that the entry makes is, in four numbers, the one that the leg's request makes
-four_booked : (cart : Cart) (r : Request) (a : LegAnswer) → r.stand.cell ≡ cart.cell → refused_by a ≡ (leg_outcome r).refused → told a ≡ (leg_outcome r).numbers
+four_booked : (cart : Cart) (r : Request) (a : Result LegDone Refused) → r.stand.cell ≡ cart.cell → refused_by a ≡ (leg_outcome r).refused → told numbers 2 a ≡ (leg_outcome r).numbers
     → four_of (host.booked cart r.goal a) ≡ booked (four_of cart) r
-unfolding four_of host.booked booked refused_by told value_at
-four_booked cart r (Done d) at refused numbers =
+unfolding four_of host.booked booked refused_by told numbers value_at
+four_booked cart r (Ok d) at refused same_numbers =
     let accepted : leg_refusal r ≡ 0 = sym (refused ∙ refusal_told r) in
-    let same = numbers ∙ leg_told r accepted in
+    let same = same_numbers ∙ leg_told r accepted in
     let cell : d.cell ≡ (leg_of r).cell = cc in
     let moves : d.moves ≡ length (leg_of r).trail = cc in
     let opened : d.opened ≡ (leg_of r).opened = cc in
     rw (accepted_left accepted _ _, cell, moves, opened, at) refl
-four_booked cart r (Refused n c) at refused numbers =
-    let some : leg_refusal r ≡ 0 → ⊥ = λ z. let same = numbers ∙ leg_told r z in numbered (leg_of r).ending (cc) in
+four_booked cart r (Err e) at refused same_numbers =
+    let some : leg_refusal r ≡ 0 → ⊥ = λ z. let same = same_numbers ∙ leg_told r z in numbered (leg_of r).ending (cc) in
     sym (refused_left some _ _)
 
 pub host_told : (cart : Cart) (r : Request) (h : Hosted) {known est trail : List ℕ} → r.stand.cell ≡ cart.cell → host.HostPromise cart r h known est trail
-    → HostLegCall (four_of cart) r (refused_by h.answer) (told h.answer) known est trail (four_of h.cart)
+    → HostLegCall (four_of cart) r (refused_by h.answer) (told numbers 2 h.answer) known est trail (four_of h.cart)
 host_told cart r h at p =
     let same = alike p.leg.gives in
     record {

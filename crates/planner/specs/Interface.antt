@@ -6,7 +6,6 @@ use Rattle.floor.specs.{declared.Floor.Floor, Floor.manhattan, Floor.value_at, F
 use Rattle.rules.specs.declared.Trip.{Trip}
 use Rattle.rules.specs.Request.{Request, leg_refusal, Outcome, leg_of, leg_outcome, walk_outcome}
 use Rattle.rules.specs.Record.{write_refusal, written, count_refusal, counted, read_refusal, read_trip}
-use Rattle.refusals.specs.Given.{given}
 use Rattle.host.specs.{declared.Cart.Cart, Host.capped, Host.searched}
 
 -- the floor of a width and a height
@@ -16,7 +15,14 @@ sized width height = record { width = width; height = height }
 -- what a leg or a walk is given
 abbrev pub asked : Floor → List ℕ → List ℕ → List ℕ → ℕ → ℕ → ℕ → ℕ → List ℕ → Request
 asked floor plan known est cart goal lookahead limit trail =
-    given floor plan known est cart goal (record { 0 = lookahead }) (record { 0 = limit }) trail
+    record {
+      floor = floor;
+      plan = plan;
+      stand = record { known = known; est = est; cell = cart };
+      goal = goal;
+      setting = record { look = lookahead; limit = limit };
+      trail = trail;
+    }
 
 -- wexlund_prepare
 pub record PrepareCall (f : Floor) (goal : ℕ) (est : List ℕ) (answer : ℕ) (est' : List ℕ) : Type 0 where

@@ -1,92 +1,128 @@
-// The C interface: each function hands its numbers to an entry, tells the answer's numbers in the lent array, and answers 0 or the
-// refusal's number. include/wexlund.h declares them.
+//! The C interface: each function hands its numbers to an entry, tells the answer's numbers in the lent array, and answers 0 or the
+//! refusal's number. include/wexlund.h declares them.
 #![tactic(auto)]
 
-ghost use Rattle.std.specs.Prelude.{◌≡◌};
-ghost use Rattle.floor.specs.Floor.{value_at};
-ghost use Rattle.rules.specs.Request.{number_of};
+ghost use Rattle.std.specs.Prelude.{◌≡◌, ℕ, ◌-◌, ◌<◌, List};
+ghost use Rattle.floor.specs.Floor.{value_at, refused};
+ghost use Rattle.refusals.specs.Answers.{refused_by, told};
 ghost use Rattle.leg.specs.Promise as leg;
 ghost use Rattle.walk.specs.Promise as walk;
-ghost use Rattle.planner.specs.Interface.{sized, asked, PrepareCall, LegCall, WalkCall, four_of, HostLegCall, RequiredCall, WriteCall, CountCall, values, ReadCall};
+ghost use Rattle.planner.specs.Interface.{sized, asked, PrepareCall, LegCall, WalkCall, HostLegCall, RequiredCall, WriteCall, CountCall, values, ReadCall};
 
-use floor::{Ending, Figure, Floor, Lookahead, MoveLimit};
+use floor::{Floor, Lookahead, MoveLimit, Refusal, Setting};
 use host::Cart;
-use leg::LegAnswer;
-use records::{CountAnswer, ReadAnswer, WriteAnswer};
+use leg::LegDone;
+use refusals::{Refused, Task};
 use rules::Trip;
-use walk::WalkAnswer;
+use walk::WalkDone;
 
-// The number of an ending.
-fn number_of(ending: Ending) -> u64
-    ensures { result ≡ number_of ending }
-{
-    match ending {
-        Ending::Arrived => 1,
-        Ending::CutOff => 2,
-        Ending::Spent => 3,
-        Ending::UnderWay => 4,
+// What is told of a result: so many numbers, in the order of the interface.
+trait Numbers<const N: usize> {
+    ghost numbers: { Self → List ℕ };
+
+    fn numbers(self) -> [u64; N]
+        ensures { result ≡ numbers self };
+}
+
+// Ending, cell, moves and opened.
+impl Numbers<4> for LegDone {
+    ghost numbers = { leg.numbers };
+
+    #[tactic(auto, unfolding(leg::specs::Promise::numbers, rules::specs::Request::number_of))]
+    fn numbers(self) -> [u64; 4] {
+        [
+            self.ending as u64,
+            u64::from(self.cell),
+            u64::from(self.moves),
+            u64::from(self.opened),
+        ]
     }
 }
 
-// Tells a leg's numbers, ending, cell, moves and opened, and answers its refusal or 0.
-fn tell_leg(answer: LegAnswer, res: &mut [u64; 4]) -> u8
-    ensures { (result ≡ leg.refused_by answer) × (res.new ≡ leg.told answer) }
+// Ending, cell, moves, legs and opened.
+impl Numbers<5> for WalkDone {
+    ghost numbers = { walk.numbers };
+
+    #[tactic(auto, unfolding(walk::specs::Promise::numbers, rules::specs::Request::number_of))]
+    fn numbers(self) -> [u64; 5] {
+        [
+            self.ending as u64,
+            u64::from(self.cell),
+            u64::from(self.moves),
+            u64::from(self.legs),
+            self.opened,
+        ]
+    }
+}
+
+// Tells the numbers of a result, or of a refusal the cart in the place of the cell and 0 in every other, and answers the refusal's
+// number or 0.
+#[tactic(auto, unfolding(refusals::specs::Answers::refused_by, refusals::specs::Answers::told))]
+fn tell<const N: usize, D: Numbers<N>>(answer: Result<D, Refused>, res: &mut [u64; N]) -> u8
+    requires { 1 < N }
+    ensures number { result ≡ refused_by answer }
+    ensures numbers { res.new ≡ told D.numbers (N - 2) answer }
 {
     match answer {
-        LegAnswer::Done(done) => {
-            let ending = done.ending;
-            let numbers = [
-                number_of(ending),
-                done.cell as u64,
-                done.moves as u64,
-                done.opened as u64,
-            ];
-            *res = numbers;
+        Ok(done) => {
+            *res = done.numbers();
             0
         }
-        LegAnswer::Refused(n, cart) => {
-            let numbers = [0, cart as u64, 0, 0];
-            *res = numbers;
-            n
+        Err(refused) => {
+            res.fill(0);
+            res[1] = refused.cart as u64;
+            u8::from(refused.refusal)
         }
     }
 }
 
-// Tells a walk's numbers, ending, cell, moves, legs and opened, and answers its refusal or 0.
-fn tell_walk(answer: WalkAnswer, res: &mut [u64; 5]) -> u8
-    ensures { (result ≡ walk.refused_by answer) × (res.new ≡ walk.told answer) }
+// The number of a refusal, or 0.
+#[tactic(auto, unfolding(floor::specs::Floor::refused))]
+fn refused<T: Drop>(answer: Result<T, Refusal>) -> u8
+    ensures { result ≡ refused answer }
 {
     match answer {
-        WalkAnswer::Done(done) => {
-            let ending = done.ending;
-            let numbers = [
-                number_of(ending),
-                done.cell as u64,
-                done.moves as u64,
-                done.legs as u64,
-                done.opened,
-            ];
-            *res = numbers;
-            0
-        }
-        WalkAnswer::Refused(n, cart) => {
-            let numbers = [0, cart as u64, 0, 0, 0];
-            *res = numbers;
-            n
-        }
+        Ok(_) => 0,
+        Err(refusal) => u8::from(refusal),
     }
 }
 
-// Preparing: writes into each cell its Manhattan distance to the goal.
+// What a leg or a walk is asked in the interface's numbers.
+fn task_of(
+    width: usize,
+    height: usize,
+    plan: &[u8],
+    goal: usize,
+    lookahead: usize,
+    limit: usize,
+) -> Task<'_>
+    ensures { result ≡ record {
+      floor = sized width height;
+      plan = plan.entry;
+      goal = goal;
+      setting = record { look = record { 0 = lookahead }; limit = record { 0 = limit } };
+    } }
+{
+    Task {
+        floor: Floor { width, height },
+        plan,
+        goal,
+        setting: Setting {
+            look: Lookahead(lookahead),
+            limit: MoveLimit(limit),
+        },
+    }
+}
+
+/// Preparing: writes into each cell its Manhattan distance to the goal.
 #[unsafe(no_mangle)]
 pub extern "C" fn wexlund_prepare(width: usize, height: usize, goal: usize, est: &mut [u16]) -> u8
     ensures { PrepareCall (sized width height) goal est.old result est.new }
 {
-    let floor = Floor { width, height };
-    floor::prepare(floor, goal, est)
+    refused(floor::prepare(Floor { width, height }, goal, est))
 }
 
-// One leg. The result: ending, cell, moves, opened.
+/// One leg. The result: ending, cell, moves, opened.
 #[unsafe(no_mangle)]
 pub extern "C" fn wexlund_leg(
     width: usize,
@@ -105,14 +141,11 @@ pub extern "C" fn wexlund_leg(
         (asked (sized width height) plan.now known.old est.old cart goal lookahead limit trail.old)
         result res.new known.new est.new trail.new }
 {
-    let floor = Floor { width, height };
-    let look = Lookahead(lookahead);
-    let most = MoveLimit(limit);
-    let answer = leg::leg(floor, plan, known, est, cart, goal, look, most, trail);
-    tell_leg(answer, res)
+    let task = task_of(width, height, plan, goal, lookahead, limit);
+    tell(leg::leg(task, known, est, cart, trail), res)
 }
 
-// One walk, with an allowance of moves. The result: ending, cell, moves, legs that searched, cells opened in all.
+/// One walk, with an allowance of moves. The result: ending, cell, moves, legs that searched, cells opened in all.
 #[unsafe(no_mangle)]
 pub extern "C" fn wexlund_walk(
     width: usize,
@@ -132,35 +165,11 @@ pub extern "C" fn wexlund_walk(
         (asked (sized width height) plan.now known.old est.old cart goal lookahead limit trail.old)
         result res.new known.new est.new trail.new }
 {
-    let floor = Floor { width, height };
-    let look = Lookahead(lookahead);
-    let most = MoveLimit(limit);
-    let answer = walk::walk(
-        floor, plan, known, est, cart, goal, look, most, allowance, trail,
-    );
-    tell_walk(answer, res)
+    let task = task_of(width, height, plan, goal, lookahead, limit);
+    tell(walk::walk(task, known, est, cart, allowance, trail), res)
 }
 
-// The record of the host that four numbers are: cell, moves, opened and legs.
-fn cart_of(numbers: [u32; 4]) -> Cart
-    ensures { numbers ≡ four_of result }
-{
-    Cart {
-        cell: numbers[0],
-        moves: numbers[1],
-        opened: numbers[2],
-        legs: numbers[3],
-    }
-}
-
-// The four numbers of the host's record.
-fn four_of(cart: Cart) -> [u32; 4]
-    ensures { result ≡ four_of cart }
-{
-    [cart.cell, cart.moves, cart.opened, cart.legs]
-}
-
-// One leg for the host's own cart: the record that it lent holds the new cell and running totals of moves, of cells opened and of legs.
+/// One leg for the host's own cart: the record that it lent holds the new cell and running totals of moves, of cells opened and of legs.
 #[unsafe(no_mangle)]
 pub extern "C" fn wexlund_host_leg(
     cart: &mut [u32; 4],
@@ -179,20 +188,13 @@ pub extern "C" fn wexlund_host_leg(
         (asked (sized width height) plan.now known.old est.old (value_at cart.old 0) goal lookahead limit trail.old)
         result res.new known.new est.new trail.new cart.new }
 {
-    let floor = Floor { width, height };
-    let look = Lookahead(lookahead);
-    let most = MoveLimit(limit);
-    let lent = *cart;
-    let given = cart_of(lent);
-    let hosted = host::leg_for(given, floor, plan, known, est, goal, look, most, trail);
-    let after = hosted.cart;
-    let numbers = four_of(after);
-    *cart = numbers;
-    let answer = hosted.answer;
-    tell_leg(answer, res)
+    let task = task_of(width, height, plan, goal, lookahead, limit);
+    let hosted = host::leg_for(Cart::from(*cart), task, known, est, trail);
+    *cart = hosted.cart.into();
+    tell(hosted.answer, res)
 }
 
-// The required figure: the Manhattan distance from start to goal.
+/// The required figure: the Manhattan distance from start to goal.
 #[unsafe(no_mangle)]
 pub extern "C" fn wexlund_required(
     width: usize,
@@ -203,22 +205,12 @@ pub extern "C" fn wexlund_required(
 ) -> u8
     ensures { RequiredCall (sized width height) start goal result res.new }
 {
-    let floor = Floor { width, height };
-    match floor::required(floor, start, goal) {
-        Figure::Moves(moves) => {
-            let numbers = [moves as u64];
-            *res = numbers;
-            0
-        }
-        Figure::Refused(n) => {
-            let numbers = [0];
-            *res = numbers;
-            n
-        }
-    }
+    let answer = floor::required(Floor { width, height }, start, goal);
+    *res = [u64::from(answer.unwrap_or(0))];
+    refused(answer)
 }
 
-// The writer of one trip record, into a room of 24 bytes.
+/// The writer of one trip record, into a room of 24 bytes.
 #[unsafe(no_mangle)]
 pub extern "C" fn wexlund_record_write(
     serial: u16,
@@ -249,64 +241,44 @@ pub extern "C" fn wexlund_record_write(
         look: lookahead,
         limit,
     };
-    match records::write(trip, room) {
-        WriteAnswer::Written(next) => 0,
-        WriteAnswer::Refused(n) => n,
-    }
+    refused(records::write(trip, room))
 }
 
-// The reader: the number of records, 0 for an empty file.
+/// The reader: the number of records, 0 for an empty file.
 #[unsafe(no_mangle)]
 pub extern "C" fn wexlund_record_count(bytes: &[u8], res: &mut [u64; 1]) -> u8
     ensures { CountCall bytes.now result res.new }
 {
-    match records::count(bytes) {
-        CountAnswer::Records(n) => {
-            let numbers = [n as u64];
-            *res = numbers;
-            0
-        }
-        CountAnswer::Refused(n) => {
-            let numbers = [0];
-            *res = numbers;
-            n
-        }
-    }
+    let answer = records::count(bytes);
+    *res = [answer.unwrap_or(0) as u64];
+    refused(answer)
 }
 
 // The values of a record, in the layout's order.
+#[tactic(auto, unfolding(crate::specs::Interface::values))]
 fn values(trip: Trip) -> [u64; 10]
     ensures { result ≡ values trip }
 {
     [
-        trip.serial as u64,
-        trip.cart as u64,
-        trip.start as u64,
-        trip.goal as u64,
-        trip.ending as u64,
-        trip.last as u64,
-        trip.moves as u64,
-        trip.required as u64,
-        trip.look as u64,
-        trip.limit as u64,
+        u64::from(trip.serial),
+        u64::from(trip.cart),
+        u64::from(trip.start),
+        u64::from(trip.goal),
+        u64::from(trip.ending),
+        u64::from(trip.last),
+        u64::from(trip.moves),
+        u64::from(trip.required),
+        u64::from(trip.look),
+        u64::from(trip.limit),
     ]
 }
 
-// Fields read by record number, counted from 0, the whole file being tested first.
+/// Fields read by record number, counted from 0, the whole file being tested first.
 #[unsafe(no_mangle)]
 pub extern "C" fn wexlund_record_read(bytes: &[u8], number: usize, res: &mut [u64; 10]) -> u8
     ensures { ReadCall bytes.now number result res.new }
 {
-    match records::read(bytes, number) {
-        ReadAnswer::Record(trip) => {
-            let numbers = values(trip);
-            *res = numbers;
-            0
-        }
-        ReadAnswer::Refused(n) => {
-            let numbers = [0; 10];
-            *res = numbers;
-            n
-        }
-    }
+    let answer = records::read(bytes, number);
+    *res = answer.map_or([0; 10], values);
+    refused(answer)
 }

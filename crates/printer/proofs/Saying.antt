@@ -11,23 +11,24 @@ use Rattle.rules.specs.Printer.{ascii, leg_line, leg_lines, end_line, spaced, tr
 use Rattle.host.specs.declared.Cart.{Cart}
 use Rattle.trip_lines.specs.declared.Line.{Line, TheVariants.Estimates}
 use Rattle.trip_lines.specs.Lines.{text_of}
-use Rattle.printer.specs.declared.Turn.{Turn, TheVariants.Last, TheVariants.Over}
+use Rattle.std.specs.Prelude.{Option, Some, None}
+use Rattle.printer.specs.declared.Turn.{Turn, TheVariants.Last}
 use Rattle.printer.specs.Turns.{Turned, ended, turned}
-use Rattle.printer.specs.Promise.{said}
+use Rattle.printer.specs.Promise.{line_text, said}
 
-pub says : (count : ℕ) (turn : Turn) (plan known est : List ℕ) (t : Turned) → turned turn plan known est ≡ t
-    → said (suc count) turn plan known est ≡ text_of t.line t.est ++ said count t.turn plan t.known t.est
+pub says : (count : ℕ) (turn : Option Turn) (plan known est : List ℕ) (t : Turned) → turned turn plan known est ≡ t
+    → said (suc count) turn plan known est ≡ line_text t.line t.est ++ said count t.turn plan t.known t.est
 unfolding said
 says count turn plan known est t is =
-    ap (λ (t : Turned). text_of t.line t.est ++ said count t.turn plan t.known t.est) is
+    ap (λ (t : Turned). line_text t.line t.est ++ said count t.turn plan t.known t.est) is
 
-over_says : (count : ℕ) (plan known est : List ℕ) → said count Over plan known est ≡ []
-unfolding said turned text_of
+over_says : (count : ℕ) (plan known est : List ℕ) → said count None plan known est ≡ []
+unfolding said turned line_text
 over_says zero plan known est = refl
 over_says (suc count) plan known est = over_says count plan known est
 
-pub last_says : (count : ℕ) → 0 < count → (l : Line) (plan known est : List ℕ) → said count (Last l) plan known est ≡ text_of l est
-unfolding said turned
+pub last_says : (count : ℕ) → 0 < count → (l : Line) (plan known est : List ℕ) → said count (Some (Last l)) plan known est ≡ text_of l est
+unfolding said turned line_text
 last_says zero some l plan known est = absurd (omega arith)
 last_says (suc count) some l plan known est =
     ap (λ (t : List ℕ). text_of l est ++ t) (over_says count plan known est) ∙ append-nil (text_of l est)
@@ -36,10 +37,10 @@ last_says (suc count) some l plan known est =
 unfoldable pub closing : Ending → ℕ → ℕ → ℕ → List ℕ → List ℕ
 closing e moves legs opened est = end_line e moves legs opened ++ (ascii "estimates" ++ spaced est)
 
-pub end_says : (count : ℕ) → 1 < count → (turn : Turn) (plan known est : List ℕ) (e : Ending) (cart : Cart) (n : ℕ)
+pub end_says : (count : ℕ) → 1 < count → (turn : Option Turn) (plan known est : List ℕ) (e : Ending) (cart : Cart) (n : ℕ)
     → turned turn plan known est ≡ ended e cart n known est
     → said count turn plan known est ≡ closing e cart.moves cart.legs cart.opened (take n est)
-unfolding ended text_of closing
+unfolding ended line_text text_of closing
 end_says zero some turn plan known est e cart n is = absurd (omega arith)
 end_says (suc count) some turn plan known est e cart n is =
     says count turn plan known est (ended e cart n known est) is

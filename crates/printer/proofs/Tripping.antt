@@ -24,7 +24,7 @@ use Rattle.theory.proofs.Accepts.{Accepted, accepted}
 use Rattle.theory.proofs.Courses.{Set, allowed, fair, by_leg, Formed, left_formed}
 use Rattle.theory.proofs.Sequences.{start_ready, accepted_still}
 use Rattle.theory.proofs.Walks.{cap, cap_ok, brief, few_opened}
-use Rattle.refusals.specs.Given.{given}
+use Rattle.std.specs.Prelude.{Some}
 use Rattle.host.specs.declared.Cart.{Cart}
 use Rattle.host.specs.Host as host
 use Rattle.walk.proofs.Turning.{on_goal, used_up, cut_off, moves, goes_on}
@@ -33,7 +33,7 @@ use Rattle.trip_lines.specs.Lines.{text_of}
 use Rattle.trip_text.specs.Heard.{fronted}
 use Rattle.printer.specs.declared.Turn.TheVariants.{Onward, End}
 use Rattle.printer.specs.Turns.{leg_asked, counted, after_leg, ended, leg_made, turned}
-use Rattle.printer.specs.Promise.{said}
+use Rattle.printer.specs.Promise.{line_text, said}
 use Rattle.printer.proofs.Cases.{leg_turn, a_leg, on_floor, arrived, spent}
 use Rattle.printer.proofs.Making.{not_cut}
 use Rattle.printer.proofs.Saying.{says, closing, end_says, rest, rest_standing, rest_onward, whole_trip}
@@ -60,8 +60,7 @@ errand_of allowance r = record {
   floor = r.floor;
   start = r.stand.cell;
   goal = r.goal;
-  look = record { 0 = r.setting.look };
-  limit = record { 0 = r.setting.limit };
+  setting = record { look = record { 0 = r.setting.look }; limit = record { 0 = r.setting.limit } };
   allowance = allowance;
 }
 
@@ -99,7 +98,7 @@ module _ (allowance : ℕ) (r : Request) (ok : walk_refusal allowance r ≡ 0) (
   -- as many turns as there are moves left, and two, say what is left
   abbrev Spoken : ℕ → Type 0
   Spoken depth = (cart : Cart) (known est : List ℕ) → Along cart known est → room cart < depth → (count : ℕ) → room cart + 2 ≤ count
-      → said count (Onward e cart) plan known est ≡ rest cart (ahead depth cart known est)
+      → said count (Some (Onward e cart)) plan known est ≡ rest cart (ahead depth cart known est)
 
   -- ---- off the goal, with moves left, a leg is made
   module _ (depth : ℕ) (next : Spoken depth) (cart : Cart) (known est : List ℕ) (g : Along cart known est) (deep : room cart < suc depth)
@@ -114,7 +113,7 @@ module _ (allowance : ℕ) (r : Request) (ok : walk_refusal allowance r ≡ 0) (
     some_room = omega arith
 
     asked_is : leg_asked e cart plan known est ≡ again r s (capped k (room cart)) (tabulate 4096 (λ x. 0))
-    unfolding leg_asked given again capped
+    unfolding leg_asked again capped
     asked_is = rw drawn
 
     limit_fits : (capped k (room cart)).limit ≤ length (tabulate 4096 (λ x. 0))
@@ -127,7 +126,7 @@ module _ (allowance : ℕ) (r : Request) (ok : walk_refusal allowance r ≡ 0) (
         (tabulate 4096 (λ x. 0)) limit_fits)
 
     -- so the turn is the leg's
-    turn_is : turned (Onward e cart) plan known est ≡ leg_made e cart known est l
+    turn_is : turned (Some (Onward e cart)) plan known est ≡ leg_made e cart known est l
     unfolding leg_turn leg_of again
     turn_is = on_floor e cart plan known est a.sized ∙ a_leg e cart plan known est off some ∙ rw (accepts, asked_is)
 
@@ -174,17 +173,17 @@ module _ (allowance : ℕ) (r : Request) (ok : walk_refusal allowance r ≡ 0) (
         λ i. record { known = in_front (left f l).known known m.known_long i; est = in_front (left f l).est est m.est_long i; cell = l.cell }
 
     -- the leg's line, and what comes after it
-    line_said : (count : ℕ) → said (suc count) (Onward e cart) plan known est
-        ≡ leg_line after.legs l.opened made l.cell ++ said count (after_leg e after l.ending) plan known' est'
-    unfolding leg_made text_of
-    line_said count = says count (Onward e cart) plan known est (leg_made e cart known est l) turn_is
+    line_said : (count : ℕ) → said (suc count) (Some (Onward e cart)) plan known est
+        ≡ leg_line after.legs l.opened made l.cell ++ said count (Some (after_leg e after l.ending)) plan known' est'
+    unfolding leg_made line_text text_of
+    line_said count = says count (Some (Onward e cart)) plan known est (leg_made e cart known est l) turn_is
 
     abbrev Rest : Walk → ℕ → Type 0
-    Rest w count = said count (after_leg e after l.ending) plan known' est' ≡ rest after w
+    Rest w count = said count (Some (after_leg e after l.ending)) plan known' est' ≡ rest after w
 
     -- where the walk is the leg and then w, and the next turns say what is left of w
     with_leg : (w : Walk) (count : ℕ) → ahead (suc depth) cart known est ≡ onward l w → Rest w count
-        → said (suc count) (Onward e cart) plan known est ≡ rest cart (ahead (suc depth) cart known est)
+        → said (suc count) (Some (Onward e cart)) plan known est ≡ rest cart (ahead (suc depth) cart known est)
     with_leg w count is more =
         line_said count
         ∙ ap (λ (t : List ℕ). leg_line after.legs l.opened made l.cell ++ t) more
@@ -194,8 +193,8 @@ module _ (allowance : ℕ) (r : Request) (ok : walk_refusal allowance r ≡ 0) (
     cut_rest : (count : ℕ) → room cart + 1 ≤ count → l.ending ≡ CutOff → Rest (standing CutOff (left f l)) count
     unfolding after_leg turned
     cut_rest count enough cut =
-        ap (λ (q : Ending). said count (after_leg e after q) plan known' est') cut
-        ∙ end_says count (omega arith) (End CutOff after (cells f)) plan known' est' CutOff after (cells f) refl
+        ap (λ (q : Ending). said count (Some (after_leg e after q)) plan known' est') cut
+        ∙ end_says count (omega arith) (Some (End CutOff after (cells f))) plan known' est' CutOff after (cells f) refl
         ∙ ap (λ (q : Stand). closing CutOff after.moves after.legs after.opened q.est) stand_is
         ∙ sym (rest_standing after CutOff (left f l))
 
@@ -225,7 +224,7 @@ module _ (allowance : ℕ) (r : Request) (ok : walk_refusal allowance r ≡ 0) (
           rw (not_cut e after l.ending on)
           (next after known' est' along (omega (arith, room_left, moved, some_room)) count (omega (arith, room_left, moved, some_room)))
 
-    leg_spoken : (count : ℕ) → room cart + 2 ≤ count → said count (Onward e cart) plan known est ≡ rest cart (ahead (suc depth) cart known est)
+    leg_spoken : (count : ℕ) → room cart + 2 ≤ count → said count (Some (Onward e cart)) plan known est ≡ rest cart (ahead (suc depth) cart known est)
     leg_spoken zero enough = absurd (omega arith)
     leg_spoken (suc count) enough = elim (cut_or_not l.ending) [
       | inl cut ↦ with_leg _ count (cut_off f truth goal k (suc depth) (room cart) s deep off some_room cut) (cut_rest count (omega arith) cut)
@@ -236,16 +235,16 @@ module _ (allowance : ℕ) (r : Request) (ok : walk_refusal allowance r ≡ 0) (
   spoken zero cart known est g deep count enough = absurd (omega arith)
   spoken (suc depth) cart known est g deep count enough = at (spoken depth) (eqb cart.cell goal) refl (leb allowance cart.moves) refl
     where
-      over : (e' : Ending) → turned (Onward e cart) plan known est ≡ ended e' cart (cells f) known est
+      over : (e' : Ending) → turned (Some (Onward e cart)) plan known est ≡ ended e' cart (cells f) known est
           → ahead (suc depth) cart known est ≡ standing e' (stand_of cart known est)
-          → said count (Onward e cart) plan known est ≡ rest cart (ahead (suc depth) cart known est)
+          → said count (Some (Onward e cart)) plan known est ≡ rest cart (ahead (suc depth) cart known est)
       over e' turn walk =
-          end_says count (omega arith) (Onward e cart) plan known est e' cart (cells f) turn
+          end_says count (omega arith) (Some (Onward e cart)) plan known est e' cart (cells f) turn
           ∙ sym (rest_standing cart e' (stand_of cart known est))
           ∙ ap (rest cart) (sym walk)
 
       at : Spoken depth → (there : Bool) → eqb cart.cell goal ≡ there → (none : Bool) → leb allowance cart.moves ≡ none
-          → said count (Onward e cart) plan known est ≡ rest cart (ahead (suc depth) cart known est)
+          → said count (Some (Onward e cart)) plan known est ≡ rest cart (ahead (suc depth) cart known est)
       at next true t none z =
           let there : cart.cell ≡ goal = eqb-true cart.cell goal t in
           over Arrived (arrived e cart plan known est a.sized there)
@@ -275,7 +274,7 @@ module _ (allowance : ℕ) (r : Request) (ok : walk_refusal allowance r ≡ 0) (
       scant = omega arith;
     }
 
-    pub trip_said : (count : ℕ) → allowance + 2 ≤ count → said count (Onward e first) plan known est ≡ trip (walk_of allowance r)
+    pub trip_said : (count : ℕ) → allowance + 2 ≤ count → said count (Some (Onward e first)) plan known est ≡ trip (walk_of allowance r)
     unfolding walk_of walk
     trip_said count enough =
         let all : allowance - 0 ≡ allowance = omega arith in

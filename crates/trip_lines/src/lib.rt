@@ -43,6 +43,7 @@ pub struct Printed<'a> {
 impl fmt::Display for Printed<'_> {
     ghost output = { λ p. Some (text_of p.line p.estimates.now) };
 
+    #[tactic(auto, unfolding(crate::specs::Lines::text_of, rules::specs::Printer::ascii))]
     fn fmt<W: fmt::Write>(&self, f: &mut fmt::Formatter<W>) -> fmt::Result {
         match self.line {
             Line::BadInput => writeln!(f, "bad input"),
@@ -67,6 +68,7 @@ impl fmt::Display for Printed<'_> {
 }
 
 // Writes a leg's line.
+#[tactic(auto, using(crate::proofs::Spelling::leg_shown), unfolding(rules::specs::Printer::ascii))]
 fn write_leg<W: fmt::Write>(
     number: u32,
     opened: u16,
@@ -93,6 +95,7 @@ fn end_words(ending: Ending) -> &'static str
 }
 
 // Writes the end line.
+#[tactic(auto, using(crate::proofs::Spelling::end_shown), unfolding(rules::specs::Printer::ascii))]
 fn write_end<W: fmt::Write>(
     ending: Ending,
     moves: u32,

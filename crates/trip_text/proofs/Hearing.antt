@@ -1,16 +1,15 @@
 -- What is heard from a text, by its two parts: the first line, and what follows its line feed.
 use Rattle.std.proofs.Common.{◌≡◌, ◌∙◌, ℕ, ◌+◌, ◌<◌, ◌≤◌, List, length, take, drop, true, false, Option, Some, None, Result, Ok, Err, refl, sym, ap, arith}
 use mathlib.Core.Logic.{inl, inr}
-use lib.Seq.{take-length}
 use Rattle.std.specs.Option.{ok_or}
 use Rattle.std.specs.Result.{IsErr, IsErrAnd, MatchResult}
 use Rattle.floor.specs.Floor.{sizes_ok}
 use Rattle.floor.proofs.Tools.{both}
 use Rattle.trip_text.specs.declared.{Errand.Errand}
-use Rattle.trip_text.specs.Scan.{slice, index_of}
+use Rattle.trip_text.specs.Scan.{index_of}
 use Rattle.trip_text.specs.Heard.{BadInput, Refused, Asked, errand_at, heard_in}
 use Rattle.trip_text.specs.Parts.{line_ok, errand_of, rest_ok, errand_refusal, judged}
-use Rattle.trip_text.proofs.Pieces.{index_within}
+use Rattle.trip_text.proofs.Pieces.{from_front, index_within}
 use Rattle.trip_text.proofs.Judging as judging
 use Rattle.trip_text.proofs.Asking.{endless, no_line, heard_by}
 
@@ -27,19 +26,15 @@ by_err Q P R (Err e) h k = k e h.1
 -- ---- texts
 
 module _ (text : List ℕ) where
-  found : index_of 10 text ≡ 0 + index_of 10 (slice 0 (length text) text)
-  unfolding slice
-  found = rw (take-length text) (omega arith)
-
   pub unfed : length text ≤ index_of 10 text → BadInput ≡ heard_in text
-  unfed le = endless text _ found (omega (arith, index_within 10 text, le))
+  unfed le = endless text _ (from_front 10 text) (omega (arith, index_within 10 text, le))
 
   module _ (line rest : List ℕ) (inside : index_of 10 text < length text) (line_is : line ≡ take (index_of 10 text) text) (rest_is : rest ≡ drop (index_of 10 text + 1) text) where
     pub no_errand : errand_of line ≡ None → BadInput ≡ heard_in text
     unfolding errand_of
     no_errand e = elim (both (line_ok line)) [
       | inl ok ↦ absurd (let some : errand_of line ≡ Some (errand_at line) = rw (ok, errand_of) in cc)
-      | inr bad ↦ no_line text _ found inside (sym bad ∙ ap line_ok line_is)
+      | inr bad ↦ no_line text _ (from_front 10 text) inside (sym bad ∙ ap line_ok line_is)
     ]
 
     module _ (e : Errand) (is : errand_of line ≡ Some e) where
@@ -49,7 +44,7 @@ module _ (text : List ℕ) where
         | inl ok ↦
             let some : errand_of line ≡ Some (errand_at line) = rw (ok, errand_of) in
             let same : errand_at line ≡ e = cc in
-            rw (rest_is, ← same, line_is) (heard_by text _ found inside (sym ok ∙ ap line_ok line_is))
+            rw (rest_is, ← same, line_is) (heard_by text _ (from_front 10 text) inside (sym ok ∙ ap line_ok line_is))
         | inr bad ↦ absurd (let none : errand_of line ≡ None = rw (bad, errand_of) in cc)
       ]
 

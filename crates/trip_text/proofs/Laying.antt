@@ -4,9 +4,7 @@ use mathlib.Core.Path.{◌≡◌, ◌∙◌, refl, sym, ap, subst}
 use mathlib.Core.Bool.{true}
 use mathlib.Core.List.{List, ◌++◌}
 use lib.ListN.{length, take, drop}
-use lib.Seq.{take-length}
-use native.Mathlib.Omega.{arith}
-use Rattle.trip_text.specs.Scan.{slice, index_of}
+use Rattle.trip_text.specs.Scan.{index_of}
 use borrow.Author.Tests.{eq-eqb, lt-ltb}
 use Rattle.std.specs.Prelude.{Result, Ok, Err}
 use Rattle.std.specs.Result.{IsErr, IsErrAnd}
@@ -19,6 +17,7 @@ use Rattle.trip_text.specs.declared.{Errand.Errand, Unheard.Unheard}
 use Rattle.trip_text.specs.declared.Unheard.TheVariants as unheard
 use Rattle.trip_text.specs.Parts.{mark}
 use Rattle.trip_text.specs.Heard.{Asked, errand_at, errand_in, heard_in, fronted, told, laid, ReadPromise}
+use Rattle.trip_text.proofs.Pieces.{from_front}
 use Rattle.trip_text.proofs.Asking.{errand, aimed, plan_is}
 
 -- a map that takes the front of what was lent
@@ -47,15 +46,11 @@ module _ (text : List ℕ) (e : Errand) (asks : heard_in text ≡ Asked e) where
   unfolding errand_at errand_in asked
   est_laid lent = ap (λ (d : Errand). fronted (prepared d.floor d.goal) lent) (sym (errand text e asks))
 
-  found : index_of 10 text ≡ 0 + index_of 10 (slice 0 (length text) text)
-  unfolding slice
-  found = rw (take-length text) (omega arith)
-
   pub plan_laid : (rows lent : List ℕ) → rows ≡ drop (index_of 10 text + 1) text
       → fronted (tabulate (cells e.floor) (λ x. byte (mark rows e.floor.width x))) lent ≡ fronted (asked text).plan lent
   plan_laid rows lent is =
       rw is (ap (λ (d : Errand). fronted (tabulate (cells d.floor) (λ x. byte (mark (drop (index_of 10 text + 1) text) d.floor.width x))) lent) (sym (errand text e asks))
-      ∙ ap (λ (l : List ℕ). fronted l lent) (plan_is text e asks (index_of 10 text) found))
+      ∙ ap (λ (l : List ℕ). fronted l lent) (plan_is text e asks (index_of 10 text) (from_front 10 text)))
 
 -- where no trip is asked for, nothing is laid out
 pub nothing_laid : (text plan known est : List ℕ) (answer : Result Errand Unheard) (u : Unheard) → IsErr answer × IsErrAnd answer (λ v. v ≡ u) → told (Err u) ≡ heard_in text

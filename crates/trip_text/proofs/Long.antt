@@ -8,7 +8,7 @@ use native.Mathlib.Omega.{arith}
 use native.Mathlib.Nat.{mul-le-mul}
 use lib.Dec.{ltb, eqb}
 use lib.ListN.{length, get_or, take, length-drop}
-use lib.Seq.{take_all, take-take, take-length, length-take-le}
+use lib.Seq.{take_all, take-take, length-take-le}
 use borrow.Author.Tests.{ltb-true, ltb-false, eqb-true}
 use Rattle.trip_text.specs.Scan.{slice, index_after, index_of}
 use Rattle.floor.specs.Floor.{sizes_ok}
@@ -20,7 +20,7 @@ use Rattle.trip_text.specs.Parts.{in_place, line_ok}
 use Rattle.trip_text.specs.Heard.{errand_at, errand_in, LongTexts}
 use Rattle.trip_text.proofs.Forms.{f, refuses, printed_as, printed_is}
 use Rattle.trip_text.proofs.Words.{placed_long}
-use Rattle.trip_text.proofs.Pieces.{split_some}
+use Rattle.trip_text.proofs.Pieces.{from_front, split_some}
 use Rattle.trip_text.proofs.Rows.{rows_long}
 use Rattle.trip_text.proofs.Asking.{sizes_refused, feeds, line_is, first_is, rows_are}
 
@@ -94,8 +94,7 @@ module _ (text : List ℕ) where
   end = index_of 10 text
 
   found : end ≡ 0 + index_of 10 (slice 0 (length text) text)
-  unfolding slice
-  found = rw (take-length text) (omega arith)
+  found = from_front 10 text
 
   small_line : (ok : first_line_ok text ≡ true) → end ≤ 69
   small_line ok =

@@ -58,6 +58,11 @@ module _ (b : ℕ) where
     | inr t ↦ rw (last_piece l (ltb-false (index_of b l) (length l) t)) (omega arith)
   ]
 
+  -- looked for from the front of a list
+  pub from_front : (l : List ℕ) → index_of b l ≡ 0 + index_of b (slice 0 (length l) l)
+  unfolding slice
+  from_front l = rw (take-length l) (omega arith)
+
   pub index_within : (l : List ℕ) → index_of b l ≤ length l
   unfolding index_of index_after
   index_within [] = omega arith

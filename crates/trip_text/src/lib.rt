@@ -201,7 +201,8 @@ fn hear(text: &[u8]) -> Result<(Errand, Drawing<'_>), Unheard>
     Ok((errand, drawing))
 }
 
-// Lays out a trip at the front of what is lent: its plan, a known map that is all open, and prepared estimates.
+// Lays out a trip at the front of what is lent: its plan, a known map that is all open, and prepared estimates. (They are no struct:
+// tried, and two fields behind one reference are not lent at once.)
 fn lay(errand: Errand, drawing: Drawing<'_>, plan: &mut [u8], known: &mut [u8], est: &mut [u16])
     requires floor { drawing.grid.floor ≡ errand.floor }
     requires goal { errand.goal < cells errand.floor }

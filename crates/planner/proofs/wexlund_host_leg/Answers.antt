@@ -9,5 +9,5 @@ use Rattle.planner.proofs.wexlund_host_leg.Goals as goal
 pub returns : goal.returns
 unfolding given four_of value_at
 returns c =
-    rw (c.cart_of-given.ensures, c.four_of-numbers.ensures, c.tell_leg.ensures.0, c.tell_leg.ensures.1)
-    (host_told _ _ _ refl c.leg_for-hosted.ensures)
+    rw (c.from.ensures, c.into.ensures, c.tell.ensures.number, c.tell.ensures.numbers)
+    (host_told _ _ _ refl (rw c.task_of-task.ensures at c.leg_for-hosted.ensures))

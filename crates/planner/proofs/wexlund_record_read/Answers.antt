@@ -1,14 +1,12 @@
--- The entry's promise, told for each answer.
-use Rattle.records.specs.Promise.{reads}
-use Rattle.planner.proofs.Telling.{read_told, no_values}
+-- The entry's promise, told.
+use Rattle.std.proofs.Common.{rules, ◌≡◌, ◌∙◌, ap, [], ◌∷◌}
+use Rattle.std.specs.Prelude.{MatchResult}
+use Rattle.planner.specs.Interface.{values}
+use Rattle.planner.proofs.Telling.{values_told}
 use Rattle.planner.proofs.wexlund_record_read.Goals as goal
 
-pub returns-in-Record : goal.returns-in-Record
-unfolding reads
-returns-in-Record c =
-    let answered = rw c.in-Record.is at c.read.ensures in
-    rw c.values-numbers.ensures (read_told answered)
-
-pub returns-in-Refused : goal.returns-in-Refused
-unfolding reads
-returns-in-Refused c = let answered = rw c.in-Refused.is at c.read.ensures in rw no_values (read_told answered)
+pub returns : goal.returns
+returns c =
+    let p = c.read-answer.ensures in
+    let m : MatchResult c.read-answer.result (λ t. c.map_or.result ≡ values t) (λ r. c.map_or.result ≡ 0 ∷ 0 ∷ 0 ∷ 0 ∷ 0 ∷ 0 ∷ 0 ∷ 0 ∷ 0 ∷ 0 ∷ []) = search rules in
+    record { answers = c.refused.ensures ∙ p.answers; tells = values_told c.read-answer.result c.map_or.result m ∙ ap values p.values }

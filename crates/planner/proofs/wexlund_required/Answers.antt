@@ -1,9 +1,6 @@
--- The entry's promise, told for each answer.
+-- The entry's promise, told.
 use Rattle.planner.proofs.Telling.{required_told}
 use Rattle.planner.proofs.wexlund_required.Goals as goal
 
-pub returns-in-Moves : goal.returns-in-Moves
-returns-in-Moves c = let answered = rw c.in-Moves.is at c.required.ensures in required_told answered
-
-pub returns-in-Refused : goal.returns-in-Refused
-returns-in-Refused c = let answered = rw c.in-Refused.is at c.required.ensures in required_told answered
+pub returns : goal.returns
+returns c = rw (c.refused.ensures, c.from.ensures, c.unwrap_or.ensures) (required_told _ _ _ _ c.required-answer.ensures)

@@ -1,5 +1,7 @@
 -- The entry's promise, with the answer told.
+use Rattle.refusals.specs.Given.{given}
 use Rattle.planner.proofs.wexlund_walk.Goals as goal
 
 pub returns : goal.returns
-returns c = record { gives = rw (c.tell_walk.ensures.0, c.tell_walk.ensures.1) c.walk-answer.ensures.gives }
+unfolding given
+returns c = record { gives = rw (c.tell.ensures.number, c.tell.ensures.numbers) (rw c.task_of-task.ensures at c.walk.ensures.gives) }

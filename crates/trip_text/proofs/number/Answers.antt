@@ -1,7 +1,7 @@
 use Rattle.std.proofs.Common.{◌∙◌, sym, arith}
 use mathlib.Core.Logic.{inl, inr}
-use borrow.Author.Tests.{eqb-true, eqb-false}
-use Rattle.trip_text.proofs.Words.{empty, too_long, none_read, all_read, too_low, too_high, fits, one_more}
+use borrow.Author.Tests.{eqb-true}
+use Rattle.trip_text.proofs.Words.{empty, too_long, all_read, too_low, too_high, fits, one_more}
 use Rattle.trip_text.proofs.number.Goals.{then-is_empty-via-then-is_empty, then-is_empty-via-else-is_empty+then-word-gt9}
 use Rattle.trip_text.proofs.number.Goals as goal
 
@@ -10,9 +10,6 @@ returns-then-is_empty c = rw c.in_ok-word.was (elim c.then-is_empty.branch [
   | then-is_empty-via-then-is_empty w ↦ empty _ (eqb-true _ _ (sym c.is_empty.ensures ∙ w.if-is_empty.true))
   | then-is_empty-via-else-is_empty+then-word-gt9 w ↦ too_long _ (omega arith)
 ])
-
-pub loop-digit-init : goal.loop-digit-init
-loop-digit-init c = none_read _ (eqb-false _ _ (sym c.is_empty.ensures ∙ c.if-is_empty.false)) (omega arith)
 
 pub returns-then-not-is_ascii_digit : goal.returns-then-not-is_ascii_digit
 returns-then-not-is_ascii_digit c = rw c.in_ok-word.was (elim c.if-not-is_ascii_digit.ensures.cases [

@@ -5,21 +5,9 @@ use Rattle.trip_lines.specs.Lines.{text_of}
 use Rattle.trip_lines.proofs.Spelling.{decimal_is, first_shown}
 use Rattle.trip_lines.proofs.PrintedDisplay.fmt.Goals as goal
 
-pub returns-in-BadInput-clause-writes : goal.returns-in-BadInput-clause-writes
-unfolding text_of ascii
-returns-in-BadInput-clause-writes g c plain ok = rw c.in-BadInput.is (c.writeln.ensures.writes plain ok)
-
 pub returns-in-Refused-clause-writes : goal.returns-in-Refused-clause-writes
 unfolding text_of ascii
 returns-in-Refused-clause-writes g c plain ok = rw (c.in-Refused.is, ← decimal_is c.in-Refused.number (omega arith)) (c.writeln-in-Refused.ensures.writes plain ok)
-
-pub returns-in-Leg-clause-writes : goal.returns-in-Leg-clause-writes
-unfolding text_of ascii
-returns-in-Leg-clause-writes g c plain ok = rw c.in-Leg.is (c.write_leg.ensures plain ok)
-
-pub returns-in-End-clause-writes : goal.returns-in-End-clause-writes
-unfolding text_of ascii
-returns-in-End-clause-writes g c plain ok = rw c.in-End.is (c.write_end.ensures plain ok)
 
 pub returns-in-Estimates-clause-writes : goal.returns-in-Estimates-clause-writes
 unfolding text_of ascii

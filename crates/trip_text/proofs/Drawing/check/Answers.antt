@@ -1,9 +1,7 @@
 -- The tests of an errand, in their order.
 use mathlib.Core.Path.{◌≡◌, ◌∙◌, sym}
 use mathlib.Core.Bool.{true}
-use borrow.Author.Tests.{ltb-true}
 use Rattle.floor.specs.Floor.{refused}
-use Rattle.floor.proofs.Tools.{and_1}
 use Rattle.trip_text.proofs.Judging.{blocked_byte, open_byte, ends_on_floor, allowed, off_floor, not_allowed, on_rack, none}
 use Rattle.trip_text.proofs.Drawing.check.Goals.{Else-not-cells_hold, Else-not-settings_hold}
 use Rattle.trip_text.proofs.Drawing.check.Goals as goal
@@ -22,9 +20,6 @@ returns-then-not-cells_hold c = off_floor _ _ (rw (c.requires, ← c.cells.ensur
 pub returns-then-not-settings_hold : goal.returns-then-not-settings_hold
 unfolding refused
 returns-then-not-settings_hold c = not_allowed _ _ (on (goal.at.returns-then-not-settings_hold c).Else-not-cells_hold) (sym c.settings_hold.ensures ∙ c.if-not-settings_hold.true)
-
-pub cell_byte-requires : goal.cell_byte-requires
-cell_byte-requires c = rw (← c.requires) (ltb-true _ _ (and_1 _ _ (on (goal.at.cell_byte-requires c).Else-not-cells_hold)))
 
 pub returns-then-cell_byte-eq1 : goal.returns-then-cell_byte-eq1
 unfolding refused

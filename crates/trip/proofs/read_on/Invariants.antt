@@ -1,8 +1,0 @@
--- Nothing has to hold from turn to turn. The measure is the turns left.
-use Rattle.trip.proofs.read_on.Given as goal
-
-abbrev pub invariant-loop-turns : goal.invariant-loop-turns
-invariant-loop-turns l = Unit {0}
-
-abbrev pub decreases-loop-turns : goal.decreases-loop-turns
-decreases-loop-turns l = l.turns
