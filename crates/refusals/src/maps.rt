@@ -82,7 +82,9 @@ fn pair_holds(k: u8, l: u8, d: u16, e: u16) -> bool
     (k == 1) | (l == 1) | ((d as u32 <= e as u32 + 1) & (e as u32 <= d as u32 + 1))
 }
 
-// Whether that is so of each two cells that are so many numbers apart.
+// Whether that is so of each two cells that are so many numbers apart. One loop serves rows and columns: a loop of its own for cells
+// that are 1 apart carries each cell over to the next turn, and is slower.
+#[inline(never)]
 fn pairs_hold(known: &[u8], est: &[u16], apart: usize) -> bool
     requires { (apart ≤ length known.now) × (length known.now ≡ length est.now) }
     ensures { result ≡ pairs_ok (blocked known.now) (value_at est.now) 0 (length known.now - apart) apart }
