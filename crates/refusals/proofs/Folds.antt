@@ -2,7 +2,7 @@
 -- each of the lists that it goes over side by side.
 use Rattle.std.specs.Prelude.{fold, min}
 use Rattle.std.specs.List.{zip}
-use Rattle.std.proofs.Common.{◌≡◌, ◌∙◌, ℕ, zero, suc, ◌<◌, Bool, true, false, ◌&&◌, List, [], ◌∷◌, length, get_or, refl, sym, ap, arith}
+use Rattle.std.proofs.Common.{◌≡◌, ◌∙◌, ℕ, zero, suc, ◌+◌, ◌<◌, Bool, true, false, ◌&&◌, List, [], ◌∷◌, length, get_or, refl, sym, ap, arith, add-one}
 use Rattle.std.proofs.lemmas.Slice.Zip.{get_or-zip, length-zip}
 use Rattle.floor.specs.Floor.{value_at}
 use Rattle.rules.specs.Sound.{every}
@@ -11,6 +11,7 @@ and-assoc : (a b c : Bool) → (a && (b && c)) ≡ ((a && b) && c)
 and-assoc true b c = refl
 and-assoc false b c = refl
 
+-- a test that is joined to no other
 and_true : (b : Bool) → (b && true) ≡ b
 and_true true = refl
 and_true false = refl
@@ -20,6 +21,11 @@ every_front : (n : ℕ) (p : ℕ → Bool) → every (suc n) p ≡ (every n (λ 
 unfolding every
 every_front zero p = and_true (p 0)
 every_front (suc n) p = rw (every_front n p) (and-assoc (p (suc n)) (every n (λ i. p (suc i))) (p 0))
+
+-- one number more
+pub every_more : (p : ℕ → Bool) (i : ℕ) (t ok : Bool) → t ≡ p i → ok ≡ every i p → (t && ok) ≡ every (i + 1) p
+unfolding every
+every_more p i t ok e h = rw (add-one i, e, h)
 
 -- the same test of every number
 pub every_same : (n : ℕ) (p q : ℕ → Bool) → ((i : ℕ) → i < n → p i ≡ q i) → every n p ≡ every n q

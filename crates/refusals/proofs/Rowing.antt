@@ -11,7 +11,7 @@ use Rattle.floor.specs.Floor.{value_at, blocked}
 use Rattle.floor.proofs.Tools.{both}
 use Rattle.rules.specs.Sound.{every}
 use Rattle.refusals.specs.Pairs.{pairs_ok}
-use Rattle.refusals.proofs.Flags.{every_more}
+use Rattle.refusals.proofs.Folds.{every_more}
 use Rattle.refusals.proofs.Pairing.{pairs_in_row}
 
 module _ (w height : ℕ) (known est : List ℕ) where
