@@ -6,7 +6,7 @@ ghost use Rattle.leg.specs.Moving.{IsKnownMap, Marked, IsOnFloor, first_blocked,
 
 use floor::{Floor, Grid, Heading};
 
-// A grid and its plan.
+// A grid and its plan. (What is asked of the known map is a clause of each function: it is lent to be written, beside them.)
 #[derive(Clone, Copy, Debug)]
 pub struct Racks<'a> {
     pub grid: Grid,

@@ -254,7 +254,7 @@ pub extern "C" fn wexlund_record_count(bytes: &[u8], res: &mut [u64; 1]) -> u8
     refused(answer)
 }
 
-// The values of a record, in the layout's order.
+// The values of a record, in the layout's order. (No `From`: the type is declared in `rules`, which has no function.)
 #[tactic(auto, unfolding(crate::specs::Interface::values))]
 fn values(trip: Trip) -> [u64; 10]
     ensures { result ≡ values trip }

@@ -18,7 +18,7 @@ use trip_text::{Errand, Unheard};
 use walk::leg_limit;
 
 /// What comes next: a leg, or the end where the cart has arrived or its allowance is used up; the end, with the number of cells whose
-/// estimates come after it; a last line.
+/// estimates come after it; a last line. (Data, of which a caller keeps the next from call to call, and no closures.)
 #[derive(Clone, Copy, Debug, PartialEq, Eq)]
 pub enum Turn {
     Onward(Errand, Cart),

@@ -24,7 +24,7 @@ const MOST_REQUIRED: u16 = 126;
 pub struct Record(pub [u8; SIZE]);
 
 impl Record {
-    // The number in the two bytes from `at` on.
+    // The number in the two bytes from `at` on. (One function a width, since each type has a `from_le_bytes` of its own.)
     fn u16_at(&self, at: usize) -> u16
         requires { at + 2 ≤ SIZE }
         ensures { result ≡ got self.now.0 at 2 }
@@ -108,7 +108,7 @@ pub fn values_hold(trip: Trip) -> bool
         & (1..=MOST).contains(&trip.limit)
 }
 
-/// The values of the record that starts at `at`.
+/// The values of the record that starts at `at`. (Its promise is about any place of a file, which no conversion can name.)
 pub fn trip_at(bytes: &[u8], at: usize) -> Trip
     requires { at + SIZE ≤ length bytes.now }
     ensures { result ≡ trip_at bytes.now at }

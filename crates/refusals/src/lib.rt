@@ -14,7 +14,8 @@ use maps::Maps;
 // The largest lookahead and the largest move limit.
 const MOST: usize = 4096;
 
-/// What stays as it is over the legs of a trip.
+/// What stays as it is over the legs of a trip. (Known map, estimates and trail are lent to be written and stand beside it: a struct of
+/// such loans would need a clause for each in every contract, that it is still the same loan.)
 #[derive(Clone, Copy, Debug, PartialEq, Eq)]
 pub struct Task<'a> {
     pub floor: Floor,

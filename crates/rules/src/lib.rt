@@ -9,6 +9,7 @@ pub struct Trip {
     pub cart: u16,
     pub start: u16,
     pub goal: u16,
+    /// Any byte, and no `Ending`: a record is handed over with any, and those that are no ending of a trip are refused.
     pub ending: u8,
     pub last: u16,
     pub moves: u32,

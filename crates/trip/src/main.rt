@@ -9,7 +9,8 @@ use trip_lines::Printed;
 // All that is printed takes at most so many turns: a line for each of 16,384 legs, the end and the estimates.
 const MOST_TURNS: usize = 16386;
 
-// Reads until the buffer is full, the input ends or a read fails, and answers how many bytes were read.
+// Reads until the buffer is full, the input ends or a read fails, and answers how many bytes were read. (A loop over `read`: std's
+// `read_to_end` fills a `Vec`, and there is no heap.)
 fn fill(input: &mut impl Read, buffer: &mut [u8]) -> usize
     ensures { result ≤ length buffer.new }
 {
