@@ -115,7 +115,8 @@ fn leg_made(errand: Errand, after: Cart, done: LegDone, n: usize) -> Next
     }
 }
 
-// Makes a leg: the smaller of the move limit and the moves left, and a trail of its own.
+// Makes a leg: the smaller of the move limit and the moves left, and a trail of its own. (The maps stay three parameters: two of them
+// are lent to be written, and of a struct of such loans each contract would have to say that they are still the same.)
 fn one_leg(
     errand: Errand,
     cart: Cart,
