@@ -67,7 +67,7 @@ def main():
     show('1c refusals written as literal numbers', lines(files, r'(return|Refused\() *\d+\)?[;,)]'))
     show('1d a bool beside a value that is written through a parameter', [f for f, p, r, _ in of if r == 'bool' and any('&mut' in x for x in p)])
     show('1e constants that number kinds', lines(files, r'^(pub )?const [A-Z_]+: (usize|i32) = [0-9];'))
-    show('2 functions whose bodies differ in a type, a size or a constant: tools of the house list them; by name', [f for f, _, _, _ in of if re.search(r'lesser|tell_|_hold$|offer|mark$', f)])
+    show('2 functions that may differ in a type, a size or a constant alone, by their names', [f for f, _, _, _ in of if re.search(r'lesser|tell_|_hold$|offer|mark$', f)])
     show('3a loops over a condition', lines(files, r'^ *(let \w+ = )?(while|loop) '))
     show('3b loops over numbers', lines(files, r'^ *for \w+ in [^/]*\.\.'))
     show('4a equality by pattern', lines(files, r'if let \w+::\w+ = '))
