@@ -1,6 +1,6 @@
--- What each line of a trip says, by document 01's definitions.
-use Rattle.std.specs.Prelude.{ℕ, take}
-use mathlib.Core.{Path.◌≡◌, List.List, List.◌++◌}
+-- What each line of a trip says, by document 01's definitions, and how it stands in what was lent.
+use Rattle.std.specs.Prelude.{ℕ, length, take, drop, Option, None, Some}
+use mathlib.Core.{Path.◌≡◌, List.List, List.[], List.◌++◌}
 use Rattle.rules.specs.{Leg.Ending, Leg.Arrived, Leg.CutOff, Leg.Spent, Leg.UnderWay}
 use Rattle.rules.specs.Printer.{ascii, decimal, leg_line, end_line, spaced}
 use Rattle.trip_lines.specs.declared.Line.{Line, TheVariants.BadInput, TheVariants.Refused, TheVariants.Leg, TheVariants.End, TheVariants.Estimates}
@@ -19,6 +19,12 @@ ended CutOff = ascii "end cut off"
 ended Spent = ascii "end spent"
 ended UnderWay = ascii "end under way"
 
--- what a writer holds once a line is printed: what it held, and the line behind it
-pub record LinePromise (line : Line) (est held held' : List ℕ) : Type 0 where
-  pub appends : held' ≡ held ++ text_of line est
+-- the bytes of a line that there may be
+unfoldable pub said_of : Option Line → List ℕ → List ℕ
+said_of None est = []
+said_of (Some line) est = text_of line est
+
+-- the line stands at the front of the buffer, the rest of which is as it was
+pub record LinePromise (line : Option Line) (est out : List ℕ) (end : ℕ) (out' : List ℕ) : Type 0 where
+  pub ends : end ≡ length (said_of line est)
+  pub puts : out' ≡ said_of line est ++ drop end out

@@ -1,12 +1,15 @@
-// The lines that the trip printer prints.
+// The lines that the trip printer prints, each put into a lent buffer.
 #![tactic(auto)]
 
-ghost use Rattle.std.specs.Prelude.{◌≡◌, ◌++◌, Some};
-ghost use Rattle.std.specs.Fmt.{WritesOnOk};
-ghost use Rattle.rules.specs.Printer.{ascii, leg_line, end_line, spaced};
-ghost use Rattle.trip_lines.specs.Lines.{ended, text_of};
+ghost use Rattle.std.specs.Prelude.{◌≡◌, ◌+◌, ◌*◌, ◌≤◌, [], ◌++◌, length, Some};
+ghost use Rattle.arrayvec.specs.ArrayString.{array_string_len};
+ghost use Rattle.io.specs.Counts.{IsPrefixLen};
+ghost use Rattle.rules.specs.Printer.{ascii, decimal, leg_line, end_line, spaced};
+ghost use Rattle.trip_lines.specs.Lines.{LinePromise, ended, text_of};
 
+use arrayvec::ArrayString;
 use floor::Ending;
+use itoa::{Buffer, Integer};
 use std::fmt;
 
 /// A line of what is printed.
@@ -33,58 +36,44 @@ pub enum Line {
     Estimates(usize),
 }
 
-/// A line beside the estimates that it may show, as `{}` prints it.
-#[derive(Clone, Copy)]
-pub struct Printed<'a> {
-    pub line: Line,
-    pub estimates: &'a [u16],
-}
-
-impl fmt::Display for Printed<'_> {
-    ghost output = { λ p. Some (text_of p.line p.estimates.now) };
-
-    #[tactic(auto, unfolding(crate::specs::Lines::text_of, rules::specs::Printer::ascii))]
-    fn fmt<W: fmt::Write>(&self, f: &mut fmt::Formatter<W>) -> fmt::Result {
-        match self.line {
-            Line::BadInput => writeln!(f, "bad input"),
-            Line::Refused(number) => writeln!(f, "refused {number}"),
-            Line::Leg {
-                number,
-                opened,
-                moves,
-                cell,
-            } => write_leg(number, opened, moves, cell, f),
-            Line::End {
-                ending,
-                moves,
-                legs,
-                opened,
-            } => write_end(ending, moves, legs, opened, f),
-            Line::Estimates(count) => {
-                write_estimates(self.estimates.get(..count).unwrap_or(self.estimates), f)
-            }
-        }
-    }
-}
-
-// Writes a leg's line.
-#[tactic(auto, using(crate::proofs::Spelling::leg_shown), unfolding(rules::specs::Printer::ascii))]
-fn write_leg<W: fmt::Write>(
-    number: u32,
-    opened: u16,
-    moves: u16,
-    cell: u16,
-    f: &mut fmt::Formatter<W>,
-) -> fmt::Result
-    ensures { WritesOnOk W.write_str_gives f.old result (leg_line number opened moves cell) f.new }
+// Pushes a word and after it a number in decimal. (Not by `write!`: nothing says of it that it succeeds where there is room.)
+fn push_number<I: Integer>(word: &str, number: I, text: &mut ArrayString<32768>)
+    requires { array_string_len text.old + length word.now + I.MAX_STR_LEN ≤ 32768 }
+    ensures pushed { text.new.bytes ≡ text.old.bytes ++ (word.now ++ I.text number) }
+    ensures upper_bound { array_string_len text.new ≤ array_string_len text.old + length word.now + I.MAX_STR_LEN }
 {
-    writeln!(f, "leg {number} opened {opened} moves {moves} cell {cell}")
+    text.push_str(word);
+    text.push_str(Buffer::new().format(number));
+}
+
+// Pushes a refusal's line.
+#[tactic(auto, using(crate::proofs::Spelling::refused_shown), unfolding(rules::specs::Printer::ascii))]
+fn push_refused(number: u8, text: &mut ArrayString<32768>)
+    requires { text.old.bytes ≡ [] }
+    ensures { text.new.bytes ≡ ascii "refused " ++ decimal number ++ ascii "\n" }
+{
+    push_number("refused ", number, text);
+    text.push_str("\n");
+}
+
+// Pushes a leg's line.
+#[tactic(auto, using(crate::proofs::Spelling::leg_shown), unfolding(rules::specs::Printer::ascii))]
+fn push_leg(number: u32, opened: u16, moves: u16, cell: u16, text: &mut ArrayString<32768>)
+    requires { text.old.bytes ≡ [] }
+    ensures { text.new.bytes ≡ leg_line number opened moves cell }
+{
+    push_number("leg ", number, text);
+    push_number(" opened ", opened, text);
+    push_number(" moves ", moves, text);
+    push_number(" cell ", cell, text);
+    text.push_str("\n");
 }
 
 // An end line's first words.
 #[tactic(auto, unfolding(crate::specs::Lines::ended, rules::specs::Printer::ascii))]
 fn end_words(ending: Ending) -> &'static str
-    ensures { result.now ≡ ended ending }
+    ensures words { result.now ≡ ended ending }
+    ensures upper_bound { length result.now ≤ 13 }
 {
     match ending {
         Ending::Arrived => "end arrived",
@@ -94,29 +83,85 @@ fn end_words(ending: Ending) -> &'static str
     }
 }
 
-// Writes the end line.
+// Pushes the end line.
 #[tactic(auto, using(crate::proofs::Spelling::end_shown), unfolding(rules::specs::Printer::ascii))]
-fn write_end<W: fmt::Write>(
-    ending: Ending,
-    moves: u32,
-    legs: u32,
-    opened: u32,
-    f: &mut fmt::Formatter<W>,
-) -> fmt::Result
-    ensures { WritesOnOk W.write_str_gives f.old result (end_line ending moves legs opened) f.new }
+fn push_end(ending: Ending, moves: u32, legs: u32, opened: u32, text: &mut ArrayString<32768>)
+    requires { text.old.bytes ≡ [] }
+    ensures { text.new.bytes ≡ end_line ending moves legs opened }
 {
-    let words = end_words(ending);
-    writeln!(f, "{words} moves {moves} legs {legs} opened {opened}")
+    text.push_str(end_words(ending));
+    push_number(" moves ", moves, text);
+    push_number(" legs ", legs, text);
+    push_number(" opened ", opened, text);
+    text.push_str("\n");
 }
 
-// Writes the line of estimates.
-fn write_estimates<W: fmt::Write>(estimates: &[u16], f: &mut fmt::Formatter<W>) -> fmt::Result
-    ensures { WritesOnOk W.write_str_gives f.old result
-        (ascii "estimates" ++ spaced estimates.now) f.new }
+// Pushes the line of estimates: a space and at most five digits for each.
+fn push_estimates(estimates: &[u16], text: &mut ArrayString<32768>)
+    requires empty { text.old.bytes ≡ [] }
+    requires room { 6 * length estimates.now + 10 ≤ 32768 }
+    ensures { text.new.bytes ≡ ascii "estimates" ++ spaced estimates.now }
 {
-    write!(f, "estimates")?;
+    text.push_str("estimates");
     for estimate in estimates {
-        write!(f, " {estimate}")?;
+        push_number(" ", *estimate, text);
     }
-    writeln!(f)
+    text.push_str("\n");
+}
+
+// A line's text.
+#[tactic(auto, unfolding(crate::specs::Lines::text_of, rules::specs::Printer::ascii))]
+fn text_of(line: Line, est: &[u16; 4096]) -> ArrayString<32768>
+    ensures { result.bytes ≡ text_of line est.now }
+{
+    let mut text = ArrayString::new();
+    match line {
+        Line::BadInput => text.push_str("bad input\n"),
+        Line::Refused(number) => push_refused(number, &mut text),
+        Line::Leg {
+            number,
+            opened,
+            moves,
+            cell,
+        } => push_leg(number, opened, moves, cell, &mut text),
+        Line::End {
+            ending,
+            moves,
+            legs,
+            opened,
+        } => push_end(ending, moves, legs, opened, &mut text),
+        Line::Estimates(count) => push_estimates(est.get(..count).unwrap_or(est), &mut text),
+    }
+    text
+}
+
+/// Puts a line at the front of `out`, and answers where it ends; no line puts nothing. The estimates are those of the line that shows
+/// them.
+#[tactic(auto, unfolding(crate::specs::Lines::said_of))]
+pub fn put_line(line: Option<Line>, est: &[u16; 4096], out: &mut [u8; 32768]) -> usize
+    ensures line_promise { LinePromise line est.now out.old result out.new }
+    ensures prefix_len { IsPrefixLen result out.new }
+{
+    let Some(line) = line else {
+        return 0;
+    };
+    let text = text_of(line, est);
+    let end = text.len();
+    out[..end].copy_from_slice(text.as_str().as_bytes());
+    end
+}
+
+/// A line beside the estimates that it may show, as `{}` prints it.
+#[derive(Clone, Copy)]
+pub struct Printed<'a> {
+    pub line: Line,
+    pub estimates: &'a [u16; 4096],
+}
+
+impl fmt::Display for Printed<'_> {
+    ghost output = { λ p. Some (text_of p.line p.estimates.now) };
+
+    fn fmt<W: fmt::Write>(&self, f: &mut fmt::Formatter<W>) -> fmt::Result {
+        f.write_str(text_of(self.line, self.estimates).as_str())
+    }
 }
