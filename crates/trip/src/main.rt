@@ -1,63 +1,61 @@
 //! The trip printer: reads a trip's text from standard input, and prints its legs, its end and its estimates, line by line.
 #![tactic(auto)]
 
-ghost use Rattle.std.specs.Prelude.{◌≤◌, length};
+// The numbers of the standard streams. (Not std's handles: its reading and printing take one statement about the C library as given
+// that the kit's `io` does not, how the number of the last error is found.)
+const STDIN: i32 = 0;
 
-use std::io::{self, Read};
-use trip_lines::Printed;
+const STDOUT: i32 = 1;
+
+const STDERR: i32 = 2;
 
 // All that is printed takes at most so many turns: a line for each of 16,384 legs, the end and the estimates.
 const MOST_TURNS: usize = 16386;
 
-// Reads until the buffer is full, the input ends or a read fails, and answers how many bytes were read. (A loop over `read`: std's
-// `read_to_end` fills a `Vec`, and there is no heap.)
-fn fill(input: &mut impl Read, buffer: &mut [u8]) -> usize
-    ensures { result ≤ length buffer.new }
-{
-    let mut filled = 0;
-    while filled < buffer.len() {
-        let Ok(count) = input.read(&mut buffer[filled..]) else {
-            break;
-        };
-        if count == 0 {
-            break;
-        }
-        filled += count;
-    }
-    filled
-}
-
 // Prints what the turns say, one after another. A line that cannot be written is the last.
-fn print_trip(rt: &(impl Print + Eprint), text: &[u8]) {
+fn print_trip(text: &[u8]) {
     let mut plan = [0u8; 4096];
     let mut known = [0u8; 4096];
     let mut est = [0u16; 4096];
+    let mut out = [0u8; 32768];
     let heard = trip_text::read(text, &mut plan, &mut known, &mut est);
     let mut turn = printer::first(heard);
     for _ in 0..MOST_TURNS {
         let next = printer::take_turn(turn, &plan, &mut known, &mut est);
-        let Some(line) = next.line else {
+        let end = trip_lines::put_line(next.line, &est, &mut out);
+        if !io::write_all(STDOUT, &out[..end]) {
+            io::write_all(STDERR, b"trip: cannot write to standard output\n");
             break;
-        };
-        let printed = Printed {
-            line,
-            estimates: &est,
-        };
-        if print!(rt; "{printed}").is_err() {
-            let _ = eprintln!(rt; "trip: cannot write to standard output");
+        }
+        if next.turn.is_none() {
             break;
         }
         turn = next.turn;
     }
 }
 
+// Reads on, and answers whether there was more to read.
+fn read_more() -> bool {
+    let mut rest = io::large_buffer();
+    io::read_full(STDIN, &mut rest) > 0
+}
+
+// Reads on to the end of standard input. Nothing says that it has one, and a proved loop has to end: so the turns are counted, up to a
+// number that no run reaches.
+fn read_on() {
+    for _ in 0..u64::MAX {
+        if !read_more() {
+            break;
+        }
+    }
+}
+
 // A text that fills the buffer is longer than any lawful one, and its front decides what is printed; what follows is read and dropped.
-fn main(rt: HostRuntime) {
-    let mut input = rt.stdin();
-    let mut text = [0u8; 65536];
-    let filled = fill(&mut input, &mut text);
-    print_trip(&rt, &text[..filled]);
+fn main() {
+    let mut text = io::large_buffer();
+    let filled = io::read_full(STDIN, &mut text);
+    print_trip(&text[..filled]);
     if filled == text.len() {
-        let _ = io::copy(&mut input, &mut io::sink());
+        read_on();
     }
 }
