@@ -69,11 +69,12 @@ impl From<Refusal> for u8 {
     }
 }
 
-/// The two allowances of a leg are types of their own, so that neither can be handed over in the other's place: how many cells
-/// it may open, and how many moves it may make.
+/// How many cells a leg may open. (Lookahead and move limit are types of their own, so that neither can be handed over in the
+/// other's place.)
 #[derive(Clone, Copy, Debug, PartialEq, Eq)]
 pub struct Lookahead(pub usize);
 
+/// How many moves a leg may make.
 #[derive(Clone, Copy, Debug, PartialEq, Eq)]
 pub struct MoveLimit(pub usize);
 
@@ -109,7 +110,7 @@ impl Floor {
     pub fn sizes_hold(self) -> bool
         ensures { result ≡ sizes_ok self }
     {
-        is_side(self.width) && is_side(self.height)
+        is_up_to(self.width, Floor::MAX_SIDE) && is_up_to(self.height, Floor::MAX_SIDE)
     }
 
     /// The grid of these sizes, or refusal 1.
@@ -146,6 +147,7 @@ impl Grid {
         ensures { result ≡ neighbour self.floor cell heading }
     {
         let w = self.floor.width;
+        // (In 32 bits, since older processors divide more slowly in 64.)
         let column = (cell as u32 % w as u32) as usize;
         match heading {
             Heading::North => cell.checked_sub(w),
@@ -172,6 +174,7 @@ impl Grid {
         requires { (a < cells self.floor) × (b < cells self.floor) }
         ensures { result ≡ manhattan self.floor a b }
     {
+        // (In 32 bits, since older processors divide more slowly in 64.)
         let w = self.floor.width as u32;
         let rows = (a as u32 / w).abs_diff(b as u32 / w);
         let columns = (a as u32 % w).abs_diff(b as u32 % w);
@@ -179,11 +182,11 @@ impl Grid {
     }
 }
 
-// Whether a floor may be so wide or so high.
-fn is_side(n: usize) -> bool
-    ensures { result ≡ up_to 64 n }
+/// Whether `n` is in 1 to `most`, as a side has to be, a lookahead and a move limit.
+pub fn is_up_to(n: usize, most: usize) -> bool
+    ensures { result ≡ up_to most n }
 {
-    0 < n && n <= Floor::MAX_SIDE
+    0 < n && n <= most
 }
 
 // Writes each cell's distance to the goal.

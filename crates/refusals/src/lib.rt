@@ -2,13 +2,13 @@
 #![tactic(auto)]
 
 ghost use Rattle.std.specs.Prelude.{◌≡◌, true, false, ◌&&◌, length, ltb, eqb, IfOk, IfErr};
-ghost use Rattle.floor.specs.Floor.{number, refused, up_to};
+ghost use Rattle.floor.specs.Floor.{number, refused};
 ghost use Rattle.rules.specs.Request.{setting_ok, walk_refusal};
 ghost use Rattle.refusals.specs.Given.{given};
 
 mod maps;
 
-use floor::{Floor, Grid, Refusal, Setting};
+use floor::{Floor, Refusal, Setting, is_up_to};
 use maps::Maps;
 
 // The largest lookahead and the largest move limit.
@@ -50,15 +50,7 @@ pub fn cells_hold(n: usize, cart: usize, goal: usize) -> bool
 pub fn settings_hold(setting: Setting) -> bool
     ensures { result ≡ setting_ok (record { look = setting.look.0; limit = setting.limit.0 }) }
 {
-    is_setting(setting.look.0) && is_setting(setting.limit.0)
-}
-
-// Whether a lookahead or a move limit may be so large.
-#[tactic(auto, unfolding(floor::specs::Floor::up_to))]
-fn is_setting(n: usize) -> bool
-    ensures { result ≡ up_to 4096 n }
-{
-    0 < n && n <= MOST
+    is_up_to(setting.look.0, MOST) && is_up_to(setting.limit.0, MOST)
 }
 
 // The refusal of a test that does not hold.
@@ -99,7 +91,7 @@ pub fn check(
     require(maps.sound_holds(task.goal), Refusal::Estimates)
 }
 
-/// The grid of a task that is accepted, or the first refusal and the cart as it was given.
+/// The first refusal, and the cart as it was given.
 #[tactic(auto, unfolding(floor::specs::Floor::refused))]
 pub fn admit(
     task: Task,
@@ -108,12 +100,10 @@ pub fn admit(
     cart: usize,
     needed: usize,
     trail: &[u16],
-) -> Result<Grid, Refused>
-    ensures accepts { IfOk result (λ grid. (grid.floor ≡ task.entry.floor)
-        × (walk_refusal needed (given task.entry known.now est.now cart trail.now) ≡ 0)) }
+) -> Result<(), Refused>
+    ensures accepts { IfOk result (λ _. walk_refusal needed (given task.entry known.now est.now cart trail.now) ≡ 0) }
     ensures refuses { IfErr result (λ r. (r.cart ≡ cart)
         × (number r.refusal ≡ walk_refusal needed (given task.entry known.now est.now cart trail.now))) }
 {
-    check(task, known, est, cart, needed, trail).map_err(|refusal| Refused { refusal, cart })?;
-    Ok(Grid { floor: task.floor })
+    check(task, known, est, cart, needed, trail).map_err(|refusal| Refused { refusal, cart })
 }

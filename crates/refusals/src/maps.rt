@@ -79,7 +79,7 @@ impl Maps<'_> {
 fn pair_holds(k: u8, l: u8, d: u16, e: u16) -> bool
     ensures { result ≡ (eqb k 1 || eqb l 1 || (leb d (e + 1) && leb e (d + 1))) }
 {
-    (k == 1) | (l == 1) | ((d as u32 <= e as u32 + 1) & (e as u32 <= d as u32 + 1))
+    (k == 1) | (l == 1) | (d.abs_diff(e) <= 1)
 }
 
 // Whether that is so of each two cells that are so many numbers apart. One loop serves rows and columns: a loop of its own for cells

@@ -14,4 +14,4 @@ returns-in_err-admit c =
 
 pub run_leg-requires : goal.run_leg-requires
 unfolding leg_refusal given
-run_leg-requires c = record { accepted = c.in_ok-admit.ensures.accepts.1; clean = c.new-room.ensures }
+run_leg-requires c = record { accepted = c.in_ok-admit.ensures.accepts; clean = c.new-room.ensures }

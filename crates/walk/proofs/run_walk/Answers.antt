@@ -1,13 +1,18 @@
-use Prim.Native.Nat.{◌-◌}
+use Prim.Native.Nat.{◌-◌, min}
 use mathlib.Core.Path.{◌≡◌, refl}
 use Rattle.std.proofs.Common.{rules}
 use lib.ListN.{length}
 use borrow.Rule.Slice.PartMut.{put_mid}
+use Rattle.std.specs.Prelude.{Ok}
+use Rattle.floor.specs.declared.MoveLimit.{MoveLimit}
+use Rattle.refusals.specs.Given.{given}
+use Rattle.leg.specs.Promise.{LegPromise}
+use Rattle.walk.proofs.Lending.{lent}
 use Rattle.floor.specs.declared.Ending.TheVariants.{CutOff}
 use Rattle.walk.specs.declared.WalkDone.{WalkDone}
 use Rattle.walk.specs.Counting.{counted}
 use Rattle.walk.proofs.Going.{Turned, cart_few, begins, arrived, spent}
-use Rattle.walk.proofs.Advancing.{accepts, turned}
+use Rattle.walk.proofs.Advancing.{lent_task, accepts, turned}
 use Rattle.walk.proofs.Keeping.{promised}
 use Rattle.walk.proofs.run_walk.Goals.{After-run_leg-leg}
 use Rattle.walk.proofs.run_walk.Goals as goal
@@ -20,7 +25,7 @@ loop-cell-init c = record { going = rw c.begun-walked.ensures (begins c.args.tas
 
 pub run_leg-leg-requires-clause-accepted : goal.run_leg-leg-requires-clause-accepted
 run_leg-leg-requires-clause-accepted c =
-    accepts c.args.task _ _ _ _ _ c.requires.accepted _ _ _ _ c.loop-cell.invariant.going c.if-cell-task.false c.if-made-allowance.false _ c.leg_limit.ensures
+    rw c.leg_task-now.ensures (accepts c.args.task _ _ _ _ _ c.requires.accepted _ _ _ _ c.loop-cell.invariant.going c.if-cell-task.false c.if-made-allowance.false _ refl)
 
 -- what the leg has made of the walk, by the count after it
 abbrev After : After-run_leg-leg → WalkDone → Type 0
@@ -31,9 +36,16 @@ After c t =
     let trail = put_mid here.walked.moves (length here.trail - here.walked.moves) here.trail l.new.trail in
     Turned a.task a.known.now a.est.now a.cart a.allowance a.trail.now here.walked l.new.known l.new.est trail t l.result.ending
 
+-- how many moves it may make
+abbrev left_of : After-run_leg-leg → MoveLimit
+left_of c = record { 0 = min c.args.task.setting.limit.0 (c.args.allowance - c.loop-cell.walked.moves) }
+
 leg_made : (c : After-run_leg-leg) (t : WalkDone) → t ≡ counted c.loop-cell.walked c.run_leg-leg.result → After c t
 leg_made c t e =
-    rw e (turned c.args.task _ _ _ _ _ c.requires.accepted _ _ _ _ c.loop-cell.invariant.going c.if-cell-task.false c.if-made-allowance.false _ c.leg_limit.ensures _ _ _ _ c.run_leg-leg.ensures.leg_promise)
+    let l = c.run_leg-leg in
+    let promise : LegPromise (given (lent_task c.args.task (left_of c)) c.loop-cell.known c.loop-cell.est c.loop-cell.walked.cell (lent c.loop-cell.walked.moves c.loop-cell.trail)) (Ok l.result) l.new.known l.new.est l.new.trail =
+    rw (← c.leg_task-now.ensures) l.ensures.leg_promise in
+    rw e (turned c.args.task _ _ _ _ _ c.requires.accepted _ _ _ _ c.loop-cell.invariant.going c.if-cell-task.false c.if-made-allowance.false (left_of c) refl _ _ _ _ promise)
 
 pub counted-walked-requires : goal.counted-walked-requires
 counted-walked-requires c = (leg_made (goal.at.counted-walked-requires c).After-run_leg-leg _ refl).totals

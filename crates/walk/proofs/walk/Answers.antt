@@ -12,4 +12,4 @@ returns-in_err-admit c =
     rw (p.1, p.2) (refuses c.args.task _ _ _ _ _ _ h.0 h.1)
 
 pub run_walk-requires : goal.run_walk-requires
-run_walk-requires c = record { accepted = c.in_ok-admit.ensures.accepts.1; clean = c.new-room.ensures }
+run_walk-requires c = record { accepted = c.in_ok-admit.ensures.accepts; clean = c.new-room.ensures }

@@ -3,10 +3,10 @@ use mathlib.Core.Path.{◌∙◌, sym}
 use Rattle.floor.specs.Floor.{sizes_ok}
 use Rattle.floor.proofs.Floor.sizes_hold.Goals as goal
 
-pub returns-then-is_side : goal.returns-then-is_side
+pub returns-then-is_up_to : goal.returns-then-is_up_to
 unfolding sizes_ok
-returns-then-is_side c = rw (sym c.is_side.ensures ∙ c.if-is_side.true) c.is_side-then-is_side.ensures
+returns-then-is_up_to c = rw (sym c.is_up_to.ensures ∙ c.if-is_up_to.true) c.is_up_to-then-is_up_to.ensures
 
-pub returns-else-is_side : goal.returns-else-is_side
+pub returns-else-is_up_to : goal.returns-else-is_up_to
 unfolding sizes_ok
-returns-else-is_side c = rw (sym c.is_side.ensures ∙ c.if-is_side.false) c.if-is_side.false
+returns-else-is_up_to c = rw (sym c.is_up_to.ensures ∙ c.if-is_up_to.false) c.if-is_up_to.false

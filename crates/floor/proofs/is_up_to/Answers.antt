@@ -2,7 +2,7 @@
 use mathlib.Core.Path.{refl}
 use borrow.Author.Tests.{lt-ltb, le-ltb}
 use Rattle.floor.specs.Floor.{up_to}
-use Rattle.floor.proofs.is_side.Goals as goal
+use Rattle.floor.proofs.is_up_to.Goals as goal
 
 pub returns-then-n-gt0 : goal.returns-then-n-gt0
 unfolding up_to
