@@ -1,9 +1,7 @@
 -- A number as the library spells it is document 01's decimal, and the estimates one by one are the rest of their line.
-use Rattle.std.proofs.Common.{Bor, Option, Some, None, ◌⊎◌, inl, inr, take_all, ◌≡◌, ◌∙◌, ℕ, suc, ◌+◌, ◌-◌, ◌^◌, ◌<◌, ◌≤◌, List, [], ◌∷◌, ◌++◌, length, get_or, take, flat_map, refl, ap, sym, rules, arith, append_assoc, append-nil}
+use Rattle.std.proofs.Common.{take_all, ◌≡◌, ◌∙◌, ℕ, suc, ◌^◌, ◌<◌, ◌≤◌, List, [], ◌∷◌, ◌++◌, length, get_or, take, flat_map, refl, ap, sym, rules, arith, append_assoc, append-nil}
 use Rattle.std.proofs.lemmas.Fmt.{PrependsLastDigit, decimal_from_prepends, length-decimal-le_succ}
 use Rattle.std.specs.Fmt as fmt
-use Rattle.std.specs.Option.{MatchOption, unwrap_or}
-use Rattle.std.specs.List.{slice_range}
 use Rattle.rules.specs.{Leg.Ending, Printer.ascii, Printer.digits, Printer.decimal, Printer.leg_line, Printer.end_line, Printer.spaced}
 use Rattle.rules.specs.{Leg.Arrived, Leg.CutOff, Leg.Spent, Leg.UnderWay}
 use Rattle.trip_lines.specs.Lines.{ended}
@@ -54,11 +52,3 @@ pub end_shown : (ending : Ending) (moves legs opened : ℕ) → moves < 2 ^ 64 �
     → (((([] ++ ended ending) ++ (ascii " moves " ++ fmt.decimal moves)) ++ (ascii " legs " ++ fmt.decimal legs)) ++ (ascii " opened " ++ fmt.decimal opened)) ++ ascii "\n"
     ≡ end_line ending moves legs opened
 end_shown ending moves legs opened a b c = rw (decimal_is moves a, decimal_is legs b, decimal_is opened c, front) (simp append_assoc)
-
--- the first estimates, or all where there are fewer
-pub first_shown : (est : Bor (List ℕ)) (count : ℕ) (found : Option (Bor (List ℕ)))
-    → MatchOption found ((count < 0) ⊎ (length est.now < count)) (λ x. (0 ≤ count) × (count ≤ length est.now) × (x.now ≡ slice_range est.now 0 count) × (length x.now + 0 ≡ count))
-    → (unwrap_or found est).now ≡ take count est.now
-first_shown est count None (inl h) = absurd (omega arith)
-first_shown est count None (inr h) = sym (take_all count est.now (omega arith))
-first_shown est count (Some x) h = let all : count - 0 ≡ count = omega arith in rw all at h.2
