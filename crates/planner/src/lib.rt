@@ -55,6 +55,27 @@ impl Numbers<5> for WalkDone {
     }
 }
 
+// The values of a record, in the layout's order.
+impl Numbers<10> for Trip {
+    ghost numbers = { values };
+
+    #[tactic(auto, unfolding(crate::specs::Interface::values))]
+    fn numbers(self) -> [u64; 10] {
+        [
+            u64::from(self.serial),
+            u64::from(self.cart),
+            u64::from(self.start),
+            u64::from(self.goal),
+            u64::from(self.ending),
+            u64::from(self.last),
+            u64::from(self.moves),
+            u64::from(self.required),
+            u64::from(self.look),
+            u64::from(self.limit),
+        ]
+    }
+}
+
 // Tells the numbers of a result, or of a refusal the cart in the place of the cell and 0 in every other, and answers the refusal's
 // number or 0.
 #[tactic(auto, unfolding(refusals::specs::Answers::refused_by, refusals::specs::Answers::told))]
@@ -254,31 +275,12 @@ pub extern "C" fn wexlund_record_count(bytes: &[u8], res: &mut [u64; 1]) -> u8
     refused(answer)
 }
 
-// The values of a record, in the layout's order. (No `From`: the type is declared in `rules`, which has no function.)
-#[tactic(auto, unfolding(crate::specs::Interface::values))]
-fn values(trip: Trip) -> [u64; 10]
-    ensures { result ≡ values trip }
-{
-    [
-        u64::from(trip.serial),
-        u64::from(trip.cart),
-        u64::from(trip.start),
-        u64::from(trip.goal),
-        u64::from(trip.ending),
-        u64::from(trip.last),
-        u64::from(trip.moves),
-        u64::from(trip.required),
-        u64::from(trip.look),
-        u64::from(trip.limit),
-    ]
-}
-
 /// Fields read by record number, counted from 0, the whole file being tested first.
 #[unsafe(no_mangle)]
 pub extern "C" fn wexlund_record_read(bytes: &[u8], number: usize, res: &mut [u64; 10]) -> u8
     ensures { ReadCall bytes.now number result res.new }
 {
     let answer = records::read(bytes, number);
-    *res = answer.map_or([0; 10], values);
+    *res = answer.map_or([0; 10], Trip::numbers);
     refused(answer)
 }

@@ -4,10 +4,17 @@
 
 ghost use Rattle.std.specs.Prelude.{◌+◌, ◌≤◌};
 
+use arrayvec::ArrayString;
 use floor::Refusal;
 use records::{Record, SIZE};
 use rules::Trip;
-use std::{fmt, io};
+use std::fmt::{self, Write};
+
+// Standard output, written by `io` and not by std, whose printing would rest on one more statement about the C library.
+const STDOUT: i32 = 1;
+
+// The bytes that any line here fits in.
+const LINE: usize = 128;
 
 // Each value at the largest that is lawful, and the last cell not the goal: serial 65,535, cart 65,535, start 4,095, goal 4,095,
 // ending 3, last cell 4,094, moves 16,769,025, required 126, lookahead 4,096, move limit 4,096.
@@ -36,7 +43,14 @@ fn trip_f(serial: u16) -> Trip {
     }
 }
 
-// What counting answered.
+// Prints a line. What cannot be printed is not said, and the lines after it are tried all the same.
+fn say(line: impl fmt::Display + Drop) {
+    let mut text = ArrayString::<LINE>::new();
+    let _ = writeln!(text, "{line}");
+    io::write_all(STDOUT, text.as_bytes());
+}
+
+// What counting answered. (Three types for what is answered, as each says its own words.)
 #[derive(Clone, Copy, Debug, PartialEq, Eq)]
 struct Counted(Result<usize, Refusal>);
 
@@ -132,7 +146,7 @@ impl RecordTrial {
 }
 
 // The rules of a record's own values: each record is counted as a file of its own, and its values are written.
-fn values(rt: &impl Print) -> io::Result<()> {
+fn values() {
     let trials = [
         RecordTrial::new("the largest values", LARGEST, 22, [0, 0]),
         RecordTrial::new("the smallest values", SMALLEST, 22, [0, 0]),
@@ -160,9 +174,8 @@ fn values(rt: &impl Print) -> io::Result<()> {
         let count = Counted(records::count(&record.0));
         let mut room = [0; SIZE];
         let written = Written(records::write(records::trip_at(&record.0, 0), &mut room));
-        println!(rt; "{}: {count}, {written}", trial.name)?;
+        say(format_args!("{}: {count}, {written}", trial.name));
     }
-    Ok(())
 }
 
 // A file of three records.
@@ -175,7 +188,7 @@ fn three(serials: [u16; 3]) -> [u8; 72] {
 }
 
 // Whether each serial is the one after the serial before.
-fn serials(rt: &impl Print) -> io::Result<()> {
+fn serials() {
     let trials = [
         [0, 1, 2],
         [65533, 65534, 65535],
@@ -192,38 +205,31 @@ fn serials(rt: &impl Print) -> io::Result<()> {
     for serials in trials {
         let [first, second, third] = serials;
         let count = Counted(records::count(&three(serials)));
-        println!(rt; "serials {first} {second} {third}: {count}")?;
+        say(format_args!("serials {first} {second} {third}: {count}"));
     }
-    Ok(())
 }
 
 // Serials that break at the record of number 1, and an ending of 0 in one of the records.
-fn order(rt: &impl Print) -> io::Result<()> {
+fn order() {
     for (place, ending) in [("before", 8), ("beside", 32), ("after", 56)] {
         let mut file = three([5, 7, 8]);
         file[ending] = 0;
-        println!(rt;
-            "a value {place} the serial: {}",
-            Counted(records::count(&file))
-        )?;
+        let count = Counted(records::count(&file));
+        say(format_args!("a value {place} the serial: {count}"));
     }
-    Ok(())
 }
 
 // The first bytes of a file.
-fn lengths(rt: &impl Print) -> io::Result<()> {
+fn lengths() {
     let file = three([65535, 0, 1]);
     for bytes in [0, 1, 23, 24, 25, 48, 71, 72] {
-        println!(rt;
-            "bytes {bytes}: {}",
-            Counted(records::count(&file[..bytes]))
-        )?;
+        let count = Counted(records::count(&file[..bytes]));
+        say(format_args!("bytes {bytes}: {count}"));
     }
-    Ok(())
 }
 
 // Reading by number: the largest values, a lawful file and numbers past its end, and files that are refused as they stand.
-fn numbers(rt: &impl Print) -> io::Result<()> {
+fn numbers() {
     let largest = LARGEST;
     let file = three([65535, 0, 1]);
     let broken = three([5, 6, 8]);
@@ -241,13 +247,12 @@ fn numbers(rt: &impl Print) -> io::Result<()> {
         (&broken[..71], 0),
     ];
     for (file, number) in trials {
-        println!(rt; "{}", Read(records::read(file, number)))?;
+        say(Read(records::read(file, number)));
     }
-    Ok(())
 }
 
 // Rooms of other lengths and a broken rule leave the room as it was; then case J and the largest values, byte for byte.
-fn rooms(rt: &impl Print) -> io::Result<()> {
+fn rooms() {
     let trip = trip_f(65535);
     let lost = Trip { last: 3, ..trip };
     let largest = Trip::from(LARGEST);
@@ -263,13 +268,12 @@ fn rooms(rt: &impl Print) -> io::Result<()> {
     for (trip, bytes) in trials {
         let mut room = [0xEE; 25];
         let written = Written(records::write(trip, &mut room[..bytes]));
-        println!(rt; "{written}:{}", Hex(&room[..bytes]))?;
+        say(format_args!("{written}:{}", Hex(&room[..bytes])));
     }
-    Ok(())
 }
 
 // 2,730 records, from serial 64,000 on: the step from 65,535 to 0 comes after 1,536 of them.
-fn long_file(rt: &impl Print) -> io::Result<()> {
+fn long_file() {
     let mut file = [0; 65520];
     let mut due = 64000;
     for place in file.chunks_exact_mut(SIZE) {
@@ -277,24 +281,19 @@ fn long_file(rt: &impl Print) -> io::Result<()> {
             due = next;
         }
     }
-    println!(rt; "a long file: {}", Counted(records::count(&file)))?;
+    let count = Counted(records::count(&file));
+    say(format_args!("a long file: {count}"));
     for number in [1535, 1536] {
-        println!(rt; "{}", Read(records::read(&file, number)))?;
+        say(Read(records::read(&file, number)));
     }
-    Ok(())
 }
 
-fn trials(rt: &impl Print) -> io::Result<()> {
-    values(rt)?;
-    serials(rt)?;
-    order(rt)?;
-    lengths(rt)?;
-    numbers(rt)?;
-    rooms(rt)?;
-    long_file(rt)
-}
-
-// What cannot be printed ends the trials, and is not said.
-fn main(rt: HostRuntime) {
-    let _ = trials(&rt);
+fn main() {
+    values();
+    serials();
+    order();
+    lengths();
+    numbers();
+    rooms();
+    long_file();
 }

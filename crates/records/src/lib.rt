@@ -24,7 +24,8 @@ const MOST_REQUIRED: u16 = 126;
 pub struct Record(pub [u8; SIZE]);
 
 impl Record {
-    // The number in the two bytes from `at` on. (One function a width, since each type has a `from_le_bytes` of its own.)
+    // The number in the two bytes from `at` on. (One function a width: `from_le_bytes` is no trait's function, so a generic one would
+    // have to leave the call to its callers, which is no plainer.)
     fn u16_at(&self, at: usize) -> u16
         requires { at + 2 ≤ SIZE }
         ensures { result ≡ got self.now.0 at 2 }
