@@ -1,5 +1,5 @@
 -- The ways in the working room, and how they are taken from the cells of the lists.
-use Rattle.std.specs.Prelude.{ℕ, ◌+◌, ◌≤◌, ◌<◌}
+use Rattle.std.specs.Prelude.{ℕ, ◌+◌, ◌-◌, ◌≤◌, ◌<◌, length, take, drop}
 use mathlib.Core.{Path.◌≡◌, List.List, Logic.◌⊎◌}
 use Rattle.floor.specs.Floor.{value_at}
 use Rattle.rules.specs.Leg.{lifted}
@@ -24,3 +24,7 @@ pub record Wiped (p : ℕ → ℕ) (m : ℕ) (ways ways₀ : List Way) : Type 0 
 -- each of the first m cells of p has its estimate raised from its way
 unfoldable pub updated : ℕ → (ℕ → ℕ) → ℕ → List Way → (ℕ → ℕ) → ℕ → ℕ
 updated f p m ways est x = lifted f (among p m x) (distance_of (nearness_at ways x)) (est x)
+
+-- the cells opened stand at the last places of the floor's list
+abbrev pub last_places : ℕ → List ℕ → ℕ → List ℕ
+last_places n stack m = let front : List ℕ = take n stack in take (length front - (n - m)) (drop (n - m) front)
