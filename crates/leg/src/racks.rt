@@ -6,7 +6,8 @@ ghost use Rattle.leg.specs.Moving.{IsKnownMap, Marked, IsOnFloor, first_blocked,
 
 use floor::{Floor, Grid, Heading};
 
-// A grid and its plan. (What is asked of the known map is a clause of each function: it is lent to be written, beside them.)
+// A grid and its plan. (What is asked of the known map and of the route is a clause of each function: the one is lent to be written,
+// the other is a part of the room, and shorter with each move.)
 #[derive(Clone, Copy, Debug)]
 pub struct Racks<'a> {
     pub grid: Grid,
