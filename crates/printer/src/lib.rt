@@ -55,7 +55,7 @@ pub fn first(heard: Result<Errand, Unheard>) -> Option<Turn>
 {
     match heard {
         Err(Unheard::BadInput) => Some(Turn::Last(Line::BadInput)),
-        Err(Unheard::Refused(refusal)) => Some(Turn::Last(Line::Refused(u8::from(refusal)))),
+        Err(Unheard::Refused(number)) => Some(Turn::Last(Line::Refused(number))),
         Ok(errand) => {
             let cart = Cart {
                 cell: errand.start,

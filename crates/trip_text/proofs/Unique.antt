@@ -1,12 +1,9 @@
 -- The reader's promise decides the answer and all lent memory: any two results that it allows are equal.
 use mathlib.Core.Path.{◌≡◌, ◌∙◌, refl, sym, ap}
-use Rattle.floor.specs.declared.Refusal.{Refusal}
-use Rattle.floor.specs.Floor.{number}
 use mathlib.Core.List.{List}
 use Prim.Native.Nat.{ℕ}
 use Rattle.rules.specs.Printer.{asked}
 use Rattle.std.specs.Prelude.{Result, Ok, Err}
-use Rattle.floor.proofs.Unique.{same_refusal}
 use Rattle.trip_text.specs.declared.{Errand.Errand, Unheard.Unheard}
 use Rattle.trip_text.specs.declared.Unheard.TheVariants as unheard
 use Rattle.trip_text.specs.Heard.{Heard, told, laid, ReadPromise}
@@ -22,7 +19,7 @@ told_unique (Err unheard.BadInput) (Err unheard.BadInput) s = refl
 told_unique (Err unheard.BadInput) (Err (unheard.Refused r)) s = absurd (cc)
 told_unique (Err (unheard.Refused q)) (Ok f) s = absurd (cc)
 told_unique (Err (unheard.Refused q)) (Err unheard.BadInput) s = absurd (cc)
-told_unique (Err (unheard.Refused q)) (Err (unheard.Refused r)) s = let n : number q ≡ number r = cc in ap (λ (x : Refusal). Err (unheard.Refused x)) (same_refusal q r n)
+told_unique (Err (unheard.Refused q)) (Err (unheard.Refused r)) s = cc
 
 pub read_unique : {text plan known est : List ℕ} {g h : Result Errand Unheard} {p k e q l f : List ℕ} → ReadPromise text plan known est g p k e
     → ReadPromise text plan known est h q l f → (g ≡ h) × (p ≡ q) × (k ≡ l) × (e ≡ f)

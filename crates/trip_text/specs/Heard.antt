@@ -1,7 +1,7 @@
 -- What is heard from a text, by document 01's definitions, and what is then written.
 use Rattle.std.specs.Prelude.{ℕ, zero, suc, ◌<◌, length, take, drop, Result, Ok, Err}
 use mathlib.Core.{Path.◌≡◌, Bool.true, Bool.false, Bool.not, Bool.◌&&◌, Bool.◌||◌, List.List, List.◌++◌}
-use Rattle.floor.specs.Floor.{sizes_ok, number}
+use Rattle.floor.specs.Floor.{sizes_ok}
 use Rattle.rules.specs.{Request.walk_refusal, Printer.field, Printer.line_at, Printer.first_line_ok, Printer.rows_ok, Printer.asked, Printer.printed}
 use Rattle.trip_text.specs.declared.{Errand.Errand, Unheard.Unheard}
 use Rattle.trip_text.specs.declared.Unheard.TheVariants as unheard
@@ -16,7 +16,7 @@ pub data Heard : Type 0 where
 unfoldable pub told : Result Errand Unheard → Heard
 told (Ok errand) = Asked errand
 told (Err unheard.BadInput) = BadInput
-told (Err (unheard.Refused refusal)) = Refused (number refusal)
+told (Err (unheard.Refused n)) = Refused n
 
 -- what a first line asks for
 unfoldable pub errand_at : List ℕ → Errand

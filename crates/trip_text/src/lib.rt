@@ -26,17 +26,19 @@ pub struct Errand {
 #[derive(Clone, Copy, Debug, PartialEq, Eq)]
 pub enum Unheard {
     BadInput,
-    Refused(Refusal),
+    /// A number and no `Refusal`: the printer's `first` answers any number that it is handed, as `Line::Refused` shows any.
+    Refused(u8),
 }
 
 impl From<Refusal> for Unheard {
     ghost use Rattle.std.specs.Prelude.{◌≡◌};
+    ghost use Rattle.floor.specs.Floor.{number};
     ghost use Rattle.trip_text.specs.declared.Unheard.TheVariants.{Refused};
 
-    ghost from_gives = { λ refusal unheard. unheard ≡ Refused refusal };
+    ghost from_gives = { λ refusal unheard. unheard ≡ Refused (number refusal) };
 
     fn from(refusal: Refusal) -> Unheard {
-        Unheard::Refused(refusal)
+        Unheard::Refused(u8::from(refusal))
     }
 }
 
