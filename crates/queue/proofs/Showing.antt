@@ -86,7 +86,7 @@ unfolding distance_of
 shorter zero g h lt e = let z : ◌≡◌ {A = ℕ} 0 1 = cc in absurd (omega arith)
 shorter (suc v) g h lt e = let z : 65535 - suc v ≡ h = cc in omega arith
 
-module _ (n : ℕ) (room : Room) (m : ℕ) where
+module _ {N : ℕ} (n : ℕ) (room : Room N) (m : ℕ) where
   -- a cell with a way that is not opened is in the frontier
   pub waits : {est : ℕ → ℕ} {x f : ℕ} → Sum (shown n room m) est x f → (shown n room m).opened x ≡ false → Front (shown n room m) est x f
   unfolding shown
@@ -98,7 +98,7 @@ module _ (n : ℕ) (room : Room) (m : ℕ) where
 
   -- a room with the same ways and cells opened shows the same
   pub shown_same : (stack rest : List ℕ) → ((i : ℕ) → i < m → opened_at n stack i ≡ opened_at n room.stack i)
-      → shown n (record { ways = room.ways; stack = stack; rest = rest }) m ≡ shown n room m
+      → shown n (record room { stack = stack; rest = rest }) m ≡ shown n room m
   unfolding shown
   shown_same stack rest o = λ t. record {
     dist = λ x. distance_of (nearness_at room.ways x);
@@ -112,10 +112,10 @@ pub opened_kept : (n : ℕ) (stack : List ℕ) (m k v i : ℕ) → m + k < n →
 unfolding opened_at value_at
 opened_kept n stack m k v i fits lt = get_or-set_other stack k (n - 1 - i) v 0 (omega arith)
 
-pub stack_aside : (n : ℕ) (room : Room) (m k v : ℕ) (rest : List ℕ) → m + k < n → shown n (record { ways = room.ways; stack = set room.stack k v; rest = rest }) m ≡ shown n room m
+pub stack_aside : {N : ℕ} (n : ℕ) (room : Room N) (m k v : ℕ) (rest : List ℕ) → m + k < n → shown n (record room { stack = set room.stack k v; rest = rest }) m ≡ shown n room m
 stack_aside n room m k v rest fits = shown_same n room m (set room.stack k v) rest (λ i lt. opened_kept n room.stack m k v i fits lt)
 
-pub rest_aside : (n : ℕ) (room : Room) (m : ℕ) (rest : List ℕ) → shown n (record { ways = room.ways; stack = room.stack; rest = rest }) m ≡ shown n room m
+pub rest_aside : {N : ℕ} (n : ℕ) (room : Room N) (m : ℕ) (rest : List ℕ) → shown n (record room { rest = rest }) m ≡ shown n room m
 unfolding shown
 rest_aside n room m rest = refl
 
@@ -165,7 +165,7 @@ module _ (s : Search) (c g y : ℕ) where
   unfolding joined
   joined_opened x = refl
 
-module _ (n : ℕ) (room : Room) (m c g y : ℕ) (lt : y < length room.ways) (few : g < 65535) (o : (shown n room m).opened y ≡ false) where
+module _ {N : ℕ} (n : ℕ) (room : Room N) (m c g y : ℕ) (lt : y < length room.ways) (few : g < 65535) (o : (shown n room m).opened y ≡ false) where
   abbrev pub wayed : List Way
   wayed = set room.ways y (record { nearness = 65535 - g; parent = c })
 
@@ -175,9 +175,9 @@ module _ (n : ℕ) (room : Room) (m c g y : ℕ) (lt : y < length room.ways) (fe
   off : (x : ℕ) → (x ≡ y → ⊥) → way_at wayed x ≡ way_at room.ways x
   off = way_off room.ways y (record { nearness = 65535 - g; parent = c })
 
-  pub joins : shown n (record { ways = wayed; stack = room.stack; rest = room.rest }) m ≡ joined c g y (shown n room m)
+  pub joins : shown n (record room { ways = wayed }) m ≡ joined c g y (shown n room m)
   unfolding shown
-  joins = by_cell (shown n (record { ways = wayed; stack = room.stack; rest = room.rest }) m) (joined c g y (shown n room m)) y
+  joins = by_cell (shown n (record room { ways = wayed }) m) (joined c g y (shown n room m)) y
       (let (d, p, f) = joined_here (shown n room m) c g y in record {
         dist = ap (λ (way : Way). distance_of way.nearness) here ∙ way_of g few ∙ sym d;
         parent = ap (λ (way : Way). parent_of way.nearness way.parent) here ∙ parent_of_way (65535 - g) c (omega arith) ∙ sym p;
@@ -223,8 +223,8 @@ module _ (n : ℕ) (stack : List ℕ) (m c : ℕ) (fits : m < n) (long : n - 1 -
 
 -- ---- the top of the stack is listed as opened, and leaves
 
-pub leaves : (n : ℕ) (room : Room) (m c : ℕ) → m < n → n - 1 - m < length room.stack
-    → shown n (record { ways = room.ways; stack = set room.stack (n - 1 - m) c; rest = room.rest }) (m + 1) ≡ leaving c (shown n room m)
+pub leaves : {N : ℕ} (n : ℕ) (room : Room N) (m c : ℕ) → m < n → n - 1 - m < length room.stack
+    → shown n (record room { stack = set room.stack (n - 1 - m) c }) (m + 1) ≡ leaving c (shown n room m)
 unfolding shown leaving
 leaves n room m c fits long = λ t. record {
   dist = λ x. distance_of (nearness_at room.ways x);

@@ -28,7 +28,7 @@ unfoldable pub opened_at : ℕ → List ℕ → ℕ → ℕ
 opened_at n stack i = value_at stack (n - 1 - i)
 
 -- the search that the room shows on a floor of n cells, m of them opened: a cell that has a way and isn't opened is in the frontier
-unfoldable pub shown : ℕ → Room → ℕ → Search
+unfoldable pub shown : {N : ℕ} → ℕ → Room N → ℕ → Search
 shown n room m = record {
   dist = λ x. distance_of (nearness_at room.ways x);
   parent = λ x. parent_of (nearness_at room.ways x) (parent_at room.ways x);

@@ -7,7 +7,7 @@ use Rattle.queue.specs.Room.{Way, Room, nearness_at, parent_at, distance_of, amo
 use Rattle.queue.specs.Queue.{Stands, Cells}
 
 -- every cell that has a way is among the m cells opened, on the stack of an or in the rest of rn, and these are cells of the floor
-pub record Held (n : ℕ) (room : Room) (m an rn : ℕ) : Type 0 where
+pub record Held {N : ℕ} (n : ℕ) (room : Room N) (m an rn : ℕ) : Type 0 where
   pub opened : Cells n m (opened_at n room.stack)
   pub stack : Cells n an (value_at room.stack)
   pub rest : Cells n rn (value_at room.rest)

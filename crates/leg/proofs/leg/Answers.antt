@@ -1,8 +1,10 @@
 -- What is refused is told; what is admitted is run in a room that is empty.
+use native.Mathlib.Omega.{arith}
 use Rattle.std.proofs.lemmas.Result.{err_from_is_err_and}
+use Rattle.floor.proofs.Geometry.{area}
 use Rattle.rules.specs.Request.{leg_refusal}
 use Rattle.refusals.specs.Given.{given}
-use Rattle.leg.proofs.Running.{refuses}
+use Rattle.leg.proofs.Running.{tested, refuses}
 use Rattle.leg.proofs.leg.Goals as goal
 
 pub returns-in_err-admit : goal.returns-in_err-admit
@@ -14,4 +16,6 @@ returns-in_err-admit c =
 
 pub run_leg-requires : goal.run_leg-requires
 unfolding leg_refusal given
-run_leg-requires c = record { accepted = c.in_ok-admit.ensures.accepts; clean = c.new-room.ensures }
+run_leg-requires c =
+    let ok = c.in_ok-admit.ensures.accepts in
+    (omega arith, (ok, (area _ (tested c.args.task _ _ _ _ ok).sized, c.new-room.ensures)))

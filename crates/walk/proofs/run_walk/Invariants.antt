@@ -6,10 +6,10 @@ use Rattle.walk.proofs.Going.{Going}
 use Rattle.walk.proofs.run_walk.Given as goal
 
 abbrev pub invariant-loop-cell : goal.invariant-loop-cell
-invariant-loop-cell l = record {
+invariant-loop-cell g l = record {
   going : Going l.task l.initial.known l.initial.est l.cart l.allowance l.initial.trail l.known l.est l.trail l.walked;
   clean : Clean l.room;
 }
 
 abbrev pub decreases-loop-cell : goal.decreases-loop-cell
-decreases-loop-cell l = l.allowance - l.walked.moves
+decreases-loop-cell g l = l.allowance - l.walked.moves

@@ -1,6 +1,9 @@
 -- What is refused is told; what is admitted is run in a room that is empty.
+use native.Mathlib.Omega.{arith}
 use Rattle.std.proofs.lemmas.Result.{err_from_is_err_and}
+use Rattle.floor.proofs.Geometry.{area}
 use Rattle.refusals.specs.Given.{given}
+use Rattle.walk.proofs.Going.{tested}
 use Rattle.walk.proofs.Keeping.{refuses}
 use Rattle.walk.proofs.walk.Goals as goal
 
@@ -12,4 +15,7 @@ returns-in_err-admit c =
     rw (p.1, p.2) (refuses c.args.task _ _ _ _ _ _ h.0 h.1)
 
 pub run_walk-requires : goal.run_walk-requires
-run_walk-requires c = record { accepted = c.in_ok-admit.ensures.accepts; clean = c.new-room.ensures }
+unfolding given
+run_walk-requires c =
+    let ok = c.in_ok-admit.ensures.accepts in
+    (omega arith, (ok, (area _ (tested c.args.task _ _ _ _ _ ok).sized, c.new-room.ensures)))

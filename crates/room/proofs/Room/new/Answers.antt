@@ -6,4 +6,4 @@ use Rattle.room.proofs.Room.new.Goals as goal
 
 pub returns : goal.returns
 unfolding Clean
-returns c x = ap (λ (way : Way). way.nearness) (none_made 4096 x)
+returns g c x = ap (λ (way : Way). way.nearness) (none_made g.row.N x)
