@@ -124,6 +124,32 @@ impl Floor {
             Err(Refusal::Sizes)
         }
     }
+
+    /// N, the number of cells, of a floor whose sizes hold.
+    pub fn cells(self) -> usize
+        requires { sizes_ok self ≡ true }
+        ensures { result ≡ cells self }
+    {
+        Grid { floor: self }.cells()
+    }
+
+    /// As the grid's, of a floor whose sizes hold.
+    pub fn neighbour(self, cell: usize, heading: Heading) -> Option<usize>
+        requires sized { sizes_ok self ≡ true }
+        requires on_floor { cell < cells self }
+        ensures { result ≡ neighbour self cell heading }
+    {
+        Grid { floor: self }.neighbour(cell, heading)
+    }
+
+    /// As the grid's, of a floor whose sizes hold.
+    pub fn manhattan(self, a: usize, b: usize) -> u16
+        requires sized { sizes_ok self ≡ true }
+        requires on_floor { (a < cells self) × (b < cells self) }
+        ensures { result ≡ manhattan self a b }
+    {
+        Grid { floor: self }.manhattan(a, b)
+    }
 }
 
 /// A floor whose sizes hold.
