@@ -2,7 +2,7 @@
 // the required figure.
 #![tactic(auto)]
 
-ghost use Rattle.std.specs.Prelude.{◌≡◌, true, false, ◌<◌, length, IfOk, IfErr};
+ghost use Rattle.std.specs.Prelude.{◌≡◌, true, false, ◌%◌, ◌<◌, length, IfOk, IfErr};
 ghost use Rattle.floor.specs.declared.Refusal.TheVariants.{Sizes};
 ghost use Rattle.floor.specs.Floor.{cells, manhattan, neighbour, number, sizes_ok, up_to, PreparePromise, prepared, RequiredPromise};
 
@@ -124,6 +124,32 @@ impl Floor {
             Err(Refusal::Sizes)
         }
     }
+
+    /// N, the number of cells, of a floor whose sizes hold.
+    pub fn cells(self) -> usize
+        requires { sizes_ok self ≡ true }
+        ensures { result ≡ cells self }
+    {
+        Grid { floor: self }.cells()
+    }
+
+    /// As the grid's, of a floor whose sizes hold.
+    pub fn neighbour(self, cell: usize, heading: Heading) -> Option<usize>
+        requires sized { sizes_ok self ≡ true }
+        requires on_floor { cell < cells self }
+        ensures { result ≡ neighbour self cell heading }
+    {
+        Grid { floor: self }.neighbour(cell, heading)
+    }
+
+    /// As the grid's, of a floor whose sizes hold.
+    pub fn manhattan(self, a: usize, b: usize) -> u16
+        requires sized { sizes_ok self ≡ true }
+        requires on_floor { (a < cells self) × (b < cells self) }
+        ensures { result ≡ manhattan self a b }
+    {
+        Grid { floor: self }.manhattan(a, b)
+    }
 }
 
 /// A floor whose sizes hold.
@@ -141,19 +167,32 @@ impl Grid {
         self.floor.width * self.floor.height
     }
 
+    // A cell's column. (In 32 bits, since older processors divide more slowly in 64; and asked for by the two headings alone that need it,
+    // since in a loop over the headings the compiler would divide for each.)
+    fn column(self, cell: usize) -> usize
+        requires { cell < cells self.floor }
+        ensures { result ≡ cell % self.floor.width }
+    {
+        (cell as u32 % self.floor.width as u32) as usize
+    }
+
     /// The cell that adjoins `cell` in a heading, if there is one.
     pub fn neighbour(self, cell: usize, heading: Heading) -> Option<usize>
         requires { cell < cells self.floor }
         ensures { result ≡ neighbour self.floor cell heading }
     {
         let w = self.floor.width;
-        // (In 32 bits, since older processors divide more slowly in 64.)
-        let column = (cell as u32 % w as u32) as usize;
         match heading {
             Heading::North => cell.checked_sub(w),
-            Heading::West => { if column == 0 { None } else { Some(cell - 1) } }
+            Heading::West => {
+                if self.column(cell) == 0 {
+                    None
+                } else {
+                    Some(cell - 1)
+                }
+            }
             Heading::East => {
-                if column + 1 == w {
+                if self.column(cell) + 1 == w {
                     None
                 } else {
                     Some(cell + 1)

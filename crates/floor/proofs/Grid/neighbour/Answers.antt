@@ -32,18 +32,6 @@ returns-else-column-w c = rw c.in-East.is (sym (east_on _ _ (omega arith)))
 pub returns-else-cell-w : goal.returns-else-cell-w
 returns-else-cell-w c = rw c.in-South.is (sym (south_off _ _ (omega arith)))
 
-pub overflow_cast-column : goal.overflow_cast-column
-overflow_cast-column c = omega (arith, area _ c.args.self.sized)
-
-pub overflow_cast-column-2 : goal.overflow_cast-column-2
-overflow_cast-column-2 c = omega (arith, sides _ c.args.self.sized)
-
-pub nonzero_rem-column : goal.nonzero_rem-column
-nonzero_rem-column c = (sides _ c.args.self.sized).some_width
-
-pub overflow_cast-column-3 : goal.overflow_cast-column-3
-overflow_cast-column-3 c = omega (arith, column_most (goal.at.overflow_cast-column-3 c).Start)
-
 pub overflow_sub-result : goal.overflow_sub-result
 overflow_sub-result c = omega (arith, column_most (goal.at.overflow_sub-result c).Start)
 
