@@ -12,6 +12,11 @@ text_of (Leg number opened moves cell) est = leg_line number opened moves cell
 text_of (End ending moves legs opened) est = end_line ending moves legs opened
 text_of (Estimates n) est = ascii "estimates" ++ spaced (take n est)
 
+-- a line's text has at most so many bytes: an end line's 66, or "estimates", its end and six for each of 4,096 estimates
+unfoldable pub most : Line → ℕ
+most (Estimates n) = 24586
+most line = 66
+
 -- an end line's first words
 unfoldable pub ended : Ending → List ℕ
 ended Arrived = ascii "end arrived"

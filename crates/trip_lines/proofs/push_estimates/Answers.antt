@@ -6,7 +6,7 @@ use Rattle.trip_lines.proofs.push_estimates.Goals as goal
 
 pub returns : goal.returns
 unfolding ascii
-returns c =
+returns g c =
     let fit : (k : ℕ) → get_or c.args.estimates.now k 0 < 2 ^ 64 = λ k. omega (arith, c.type_inv.estimates k) in
     rw (c.push_str-2.ensures.bytes, c.loop-estimate.invariant.0, c.push_str.ensures.bytes, c.requires.empty)
     (estimates_shown c.args.estimates.now c.loop-estimate.estimate-index c.loop-estimate-test.false fit)

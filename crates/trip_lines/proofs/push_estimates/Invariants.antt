@@ -4,6 +4,6 @@ use Rattle.trip_lines.proofs.Spelling.{shown}
 use Rattle.trip_lines.proofs.push_estimates.Given as goal
 
 abbrev pub invariant-loop-estimate : goal.invariant-loop-estimate
-invariant-loop-estimate l =
+invariant-loop-estimate g l =
     (l.text.bytes ≡ l.initial.text.bytes ++ flat_map shown (take l.estimate-index l.estimates))
     × (length l.text.bytes ≤ length l.initial.text.bytes + 6 * l.estimate-index)
