@@ -28,6 +28,11 @@ row_fits f q lt = let m : (q + 1) * f.width ≤ f.height * f.width = mul-le-mul_
 pub first_row : (f : Floor) → sizes_ok f ≡ true → f.width ≤ cells f
 first_row f s = omega (arith, row_fits f 0 (sides f s).some_height)
 
+-- a row of one cell has no pair
+pub rows_alone : (height w : ℕ) (known : ℕ → Bool) (est : ℕ → ℕ) → w ≡ 1 → true ≡ every height (λ q. pairs_ok known est (q * w) (w - 1) 1)
+unfolding pairs_ok
+rows_alone height w known est one = sym (every_i height _ (λ q lq. every_i (w - 1) _ (λ i lt. absurd (omega arith))))
+
 module _ (f : Floor) (known : ℕ → Bool) (est : ℕ → ℕ) where
   -- of two cells that adjoin a pair's test is the rule's, both ways
   pair_near : (x y : ℕ) → beside f x y ≡ true → pair_ok known est x y ≡ (near_ok f known est x y && near_ok f known est y x)

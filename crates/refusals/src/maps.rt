@@ -19,6 +19,7 @@ pub struct Maps<'a> {
     ghost est_long: { length est.now ≡ cells grid.floor },
 }
 
+// (Two tests are inlined in any case: on a small floor their calls cost as much as they do.)
 impl Maps<'_> {
     // Whether no byte of plan or known map is above 1.
     pub fn bytes_hold(&self) -> bool
@@ -32,6 +33,7 @@ impl Maps<'_> {
     }
 
     // Whether the known map is blocked only where the plan is.
+    #[inline(always)]
     pub fn within_holds(&self) -> bool
         ensures { result ≡ within self.now.grid.floor (blocked self.now.known.now) (blocked self.now.plan.now) }
     {
@@ -51,21 +53,26 @@ impl Maps<'_> {
         self.est.iter().fold(true, |ok, e| (*e <= most) & ok)
     }
 
-    // Whether it is so of each two adjoining cells of one row that a pair of them holds.
+    // Whether it is so of each two adjoining cells of one row that a pair of them holds. (Rows of one cell have no pairs and are not gone
+    // over: on a floor one cell wide that took longer than all other tests.)
     fn rows_hold(&self) -> bool
         ensures { result ≡ every self.now.grid.floor.height (λ q.
             pairs_ok (blocked self.now.known.now) (value_at self.now.est.now)
             (q * self.now.grid.floor.width) (self.now.grid.floor.width - 1) 1) }
     {
         let w = self.grid.floor.width;
+        if w == 1 {
+            return true;
+        }
         let mut ok = true;
         for (k, e) in self.known.chunks_exact(w).zip(self.est.chunks_exact(w)) {
-            ok = pairs_hold(k, e, 1) & ok;
+            ok = row_holds(k, e) & ok;
         }
         ok
     }
 
     // Whether the estimates are sound. Two cells that adjoin follow each other in one row, or are one width apart.
+    #[inline(always)]
     pub fn sound_holds(&self, goal: usize) -> bool
         requires { goal < cells self.now.grid.floor }
         ensures { result ≡ sound self.now.grid.floor (blocked self.now.known.now) (value_at self.now.est.now) goal }
@@ -82,8 +89,20 @@ fn pair_holds(k: u8, l: u8, d: u16, e: u16) -> bool
     (k == 1) | (l == 1) | (d.abs_diff(e) <= 1)
 }
 
-// Whether that is so of each two cells that are so many numbers apart. One loop serves rows and columns: a loop of its own for cells
-// that are 1 apart carries each cell over to the next turn, and is slower.
+// Whether that is so of each cell of a row and the next one.
+#[inline(always)]
+fn row_holds(known: &[u8], est: &[u16]) -> bool
+    requires { (1 ≤ length known.now) × (length known.now ≡ length est.now) }
+    ensures { result ≡ pairs_ok (blocked known.now) (value_at est.now) 0 (length known.now - 1) 1 }
+{
+    let n = known.len() - 1;
+    let marks = known[..n].iter().zip(&known[1..1 + n]);
+    let values = est[..n].iter().zip(&est[1..1 + n]);
+    marks.zip(values).fold(true, |ok, ((k, l), (d, e))| pair_holds(*k, *l, *d, *e) & ok)
+}
+
+// Whether that is so of each two cells that are so many numbers apart. (A row's chain stands by itself: of one chain that serves both,
+// one use alone becomes a loop of many cells at a time, and as a function that both call it is slow on short rows.)
 #[inline(never)]
 fn pairs_hold(known: &[u8], est: &[u16], apart: usize) -> bool
     requires { (apart ≤ length known.now) × (length known.now ≡ length est.now) }

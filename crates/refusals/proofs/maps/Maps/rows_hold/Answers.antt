@@ -3,8 +3,12 @@ use Rattle.std.specs.Iterator.Adapters.{zip_first, zip_second}
 use Rattle.std.specs.Slice.Iter.{chunks_exact_size}
 use Rattle.floor.specs.Floor.{cells}
 use Rattle.floor.proofs.Geometry.{sides}
+use Rattle.refusals.proofs.Adjoining.{rows_alone}
 use Rattle.refusals.proofs.Rowing.{rows_none, rows_more, rows_all}
 use Rattle.refusals.proofs.maps.Maps.rows_hold.Goals as goal
+
+pub returns-then-w-eq1 : goal.returns-then-w-eq1
+returns-then-w-eq1 c = rows_alone _ _ _ _ c.if-w-eq1.true
 
 pub chunks_exact-requires : goal.chunks_exact-requires
 chunks_exact-requires c = (sides _ c.args.self.now.grid.sized).some_width
@@ -24,8 +28,8 @@ loop-k-init-derived c =
 pub loop-k-init : goal.loop-k-init
 loop-k-init c = rows_none _ _ _ _ _ _ _ _ (search rules) (search rules) (search rules) (search rules)
 
-pub pairs_hold-ok-requires : goal.pairs_hold-ok-requires
-pairs_hold-ok-requires c =
+pub row_holds-ok-requires : goal.row_holds-ok-requires
+row_holds-ok-requires c =
     let s = c.in-Some.ensures.steps in
     let i = c.loop-k.invariant in
     (omega (arith, s.0.1.1, i.known_size, (sides _ c.args.self.now.grid.sized).some_width), s.0.1.1 ∙ i.known_size ∙ sym i.est_size ∙ sym s.1.1.1)
@@ -37,7 +41,7 @@ loop-k-preserved c =
     let m = c.args.self.now in
     rw (length-append, s.0.0, s.1.0)
     (rows_more _ _ _ _ (omega (arith, m.known_long)) (omega (arith, m.est_long)) (sides _ m.grid.sized).some_width
-    _ _ _ _ _ _ _ _ _ _ _ c.loop-k.invariant s.0.1.0 s.0.1.1 s.1.1.0 s.1.1.1 c.pairs_hold-ok.ensures)
+    _ _ _ _ _ _ _ _ _ _ _ c.loop-k.invariant s.0.1.0 s.0.1.1 s.1.1.0 s.1.1.1 c.row_holds-ok.ensures)
 
 pub returns : goal.returns
 unfolding cells
