@@ -18,4 +18,4 @@ pub run_leg-requires : goal.run_leg-requires
 unfolding leg_refusal given
 run_leg-requires c =
     let ok = c.in_ok-admit.ensures.accepts in
-    (omega arith, (ok, (area _ (tested c.args.task _ _ _ _ ok).sized, c.new-room.ensures)))
+    (omega arith, (ok, (omega (arith, area _ (tested c.args.task _ _ _ _ ok).sized), c.new-room.ensures)))

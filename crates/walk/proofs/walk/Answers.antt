@@ -18,4 +18,4 @@ pub run_walk-requires : goal.run_walk-requires
 unfolding given
 run_walk-requires c =
     let ok = c.in_ok-admit.ensures.accepts in
-    (omega arith, (ok, (area _ (tested c.args.task _ _ _ _ _ ok).sized, c.new-room.ensures)))
+    (omega arith, (ok, (omega (arith, area _ (tested c.args.task _ _ _ _ _ ok).sized), c.new-room.ensures)))
