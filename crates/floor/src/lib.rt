@@ -125,63 +125,31 @@ impl Floor {
         }
     }
 
-    /// N, the number of cells, of a floor whose sizes hold.
+    /// N, the number of cells.
     pub fn cells(self) -> usize
         requires { sizes_ok self ≡ true }
         ensures { result ≡ cells self }
     {
-        Grid { floor: self }.cells()
-    }
-
-    /// As the grid's, of a floor whose sizes hold.
-    pub fn neighbour(self, cell: usize, heading: Heading) -> Option<usize>
-        requires sized { sizes_ok self ≡ true }
-        requires on_floor { cell < cells self }
-        ensures { result ≡ neighbour self cell heading }
-    {
-        Grid { floor: self }.neighbour(cell, heading)
-    }
-
-    /// As the grid's, of a floor whose sizes hold.
-    pub fn manhattan(self, a: usize, b: usize) -> u16
-        requires sized { sizes_ok self ≡ true }
-        requires on_floor { (a < cells self) × (b < cells self) }
-        ensures { result ≡ manhattan self a b }
-    {
-        Grid { floor: self }.manhattan(a, b)
-    }
-}
-
-/// A floor whose sizes hold.
-#[derive(Clone, Copy, Debug)]
-pub struct Grid {
-    pub floor: Floor,
-    ghost sized: { sizes_ok floor ≡ true },
-}
-
-impl Grid {
-    /// N, the number of cells.
-    pub fn cells(self) -> usize
-        ensures { result ≡ cells self.floor }
-    {
-        self.floor.width * self.floor.height
+        self.width * self.height
     }
 
     // A cell's column. (In 32 bits, since older processors divide more slowly in 64; and asked for by the two headings alone that need it,
     // since in a loop over the headings the compiler would divide for each.)
     fn column(self, cell: usize) -> usize
-        requires { cell < cells self.floor }
-        ensures { result ≡ cell % self.floor.width }
+        requires sized { sizes_ok self ≡ true }
+        requires on_floor { cell < cells self }
+        ensures { result ≡ cell % self.width }
     {
-        (cell as u32 % self.floor.width as u32) as usize
+        (cell as u32 % self.width as u32) as usize
     }
 
     /// The cell that adjoins `cell` in a heading, if there is one.
     pub fn neighbour(self, cell: usize, heading: Heading) -> Option<usize>
-        requires { cell < cells self.floor }
-        ensures { result ≡ neighbour self.floor cell heading }
+        requires sized { sizes_ok self ≡ true }
+        requires on_floor { cell < cells self }
+        ensures { result ≡ neighbour self cell heading }
     {
-        let w = self.floor.width;
+        let w = self.width;
         match heading {
             Heading::North => cell.checked_sub(w),
             Heading::West => {
@@ -210,14 +178,47 @@ impl Grid {
 
     /// Rows apart and columns apart.
     pub fn manhattan(self, a: usize, b: usize) -> u16
-        requires { (a < cells self.floor) × (b < cells self.floor) }
-        ensures { result ≡ manhattan self.floor a b }
+        requires sized { sizes_ok self ≡ true }
+        requires on_floor { (a < cells self) × (b < cells self) }
+        ensures { result ≡ manhattan self a b }
     {
         // (In 32 bits, since older processors divide more slowly in 64.)
-        let w = self.floor.width as u32;
+        let w = self.width as u32;
         let rows = (a as u32 / w).abs_diff(b as u32 / w);
         let columns = (a as u32 % w).abs_diff(b as u32 % w);
         (rows + columns) as u16
+    }
+}
+
+/// A floor whose sizes hold, of which nothing more has to be asked.
+#[derive(Clone, Copy, Debug)]
+pub struct Grid {
+    pub floor: Floor,
+    ghost sized: { sizes_ok floor ≡ true },
+}
+
+impl Grid {
+    /// N, the number of cells.
+    pub fn cells(self) -> usize
+        ensures { result ≡ cells self.floor }
+    {
+        self.floor.cells()
+    }
+
+    /// The cell that adjoins `cell` in a heading, if there is one.
+    pub fn neighbour(self, cell: usize, heading: Heading) -> Option<usize>
+        requires { cell < cells self.floor }
+        ensures { result ≡ neighbour self.floor cell heading }
+    {
+        self.floor.neighbour(cell, heading)
+    }
+
+    /// Rows apart and columns apart.
+    pub fn manhattan(self, a: usize, b: usize) -> u16
+        requires { (a < cells self.floor) × (b < cells self.floor) }
+        ensures { result ≡ manhattan self.floor a b }
+    {
+        self.floor.manhattan(a, b)
     }
 }
 

@@ -13,7 +13,7 @@ use floor::Ending;
 use itoa::{Buffer, Integer};
 use std::fmt;
 
-// Room for any line but that of the estimates, and for that one too.
+// The bytes of the string that a line is made in: for any line but that of the estimates, and for that one.
 const SHORT: usize = 128;
 
 const LONG: usize = 32768;

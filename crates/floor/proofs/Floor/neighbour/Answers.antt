@@ -5,10 +5,10 @@ use native.Mathlib.Nat.{mod-le}
 use native.Mathlib.Omega.{arith}
 use Rattle.floor.proofs.Geometry.{sides, area}
 use Rattle.floor.proofs.Headings.{north_is, west_off, west_on, east_off, east_on, south_on, south_off}
-use Rattle.floor.proofs.Grid.neighbour.Goals.{Start}
-use Rattle.floor.proofs.Grid.neighbour.Goals as goal
+use Rattle.floor.proofs.Floor.neighbour.Goals.{Start}
+use Rattle.floor.proofs.Floor.neighbour.Goals as goal
 
-column_most : (c : Start) → c.args.cell % c.args.self.floor.width ≤ c.args.cell
+column_most : (c : Start) → c.args.cell % c.args.self.width ≤ c.args.cell
 column_most c = mod-le _ _
 
 pub returns-in-North : goal.returns-in-North
@@ -36,10 +36,10 @@ pub overflow_sub-result : goal.overflow_sub-result
 overflow_sub-result c = omega (arith, column_most (goal.at.overflow_sub-result c).Start)
 
 pub overflow_add-column : goal.overflow_add-column
-overflow_add-column c = omega (arith, area _ c.args.self.sized, column_most (goal.at.overflow_add-column c).Start)
+overflow_add-column c = omega (arith, area _ c.requires.sized, column_most (goal.at.overflow_add-column c).Start)
 
 pub overflow_add-result : goal.overflow_add-result
-overflow_add-result c = omega (arith, area _ c.args.self.sized)
+overflow_add-result c = omega (arith, area _ c.requires.sized)
 
 pub overflow_add-cell : goal.overflow_add-cell
-overflow_add-cell c = omega (arith, area _ c.args.self.sized, sides _ c.args.self.sized)
+overflow_add-cell c = omega (arith, area _ c.requires.sized, sides _ c.requires.sized)
