@@ -10,7 +10,7 @@ loop-cell-init c = (omega arith, filled_none _ _)
 pub loop-cell-preserved : goal.loop-cell-preserved
 loop-cell-preserved c =
     let i = c.loop-cell.invariant in
-    (rw length-set i.0, filled_more _ _ _ _ (omega arith) c.manhattan.ensures i.1)
+    (rw length-set i.0, filled_more _ _ _ _ (omega arith) (grind (arith, c.manhattan.ensures)) i.1)
 
 pub returns : goal.returns
 unfolding prepared
