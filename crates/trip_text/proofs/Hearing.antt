@@ -3,11 +3,11 @@ use Rattle.std.proofs.Common.{◌≡◌, ◌∙◌, ℕ, ◌+◌, ◌<◌, ◌�
 use mathlib.Core.Logic.{inl, inr}
 use Rattle.std.specs.Option.{ok_or}
 use Rattle.std.specs.Result.{IsErr, IsErrAnd, MatchResult}
-use Rattle.floor.specs.Floor.{sizes_ok}
+use Rattle.floor.specs.{declared.Refusal.Refusal, Floor.sizes_ok, Floor.number}
 use Rattle.floor.proofs.Tools.{both}
 use Rattle.trip_text.specs.declared.{Errand.Errand}
 use Rattle.trip_text.specs.Scan.{index_of}
-use Rattle.trip_text.specs.Heard.{BadInput, Refused, Asked, errand_at, heard_in}
+use Rattle.trip_text.specs.Heard.{BadInput, Refused, Asked, InTable, errand_at, heard_in}
 use Rattle.trip_text.specs.Parts.{line_ok, errand_of, rest_ok, errand_refusal, judged}
 use Rattle.trip_text.proofs.Pieces.{from_front, index_within}
 use Rattle.trip_text.proofs.Judging as judging
@@ -22,6 +22,9 @@ not_ok (Some a) e u is = absurd (cc)
 pub by_err : {A E : Type 0} (Q : A → Type 0) (P R : E → Type 0) (r : Result A E) → IsErr r × IsErrAnd r P → ((e : E) → P e → R e) → MatchResult r Q R
 by_err Q P R (Ok a) h k = absurd (cc)
 by_err Q P R (Err e) h k = k e h.1
+
+pub in_table : (refusal : Refusal) → InTable (number refusal)
+in_table refusal = record { refusal = refusal; is = refl }
 
 -- ---- texts
 

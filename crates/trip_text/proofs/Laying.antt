@@ -7,7 +7,7 @@ use lib.ListN.{length, take, drop}
 use Rattle.trip_text.specs.Scan.{index_of}
 use borrow.Author.Tests.{eq-eqb, lt-ltb}
 use Rattle.std.specs.Prelude.{Result, Ok, Err}
-use Rattle.std.specs.Result.{IsErr, IsErrAnd}
+use Rattle.std.specs.Result.{IsErr, IsErrAnd, IfErr}
 use Rattle.floor.specs.declared.{Floor.Floor, Refusal.Refusal}
 use Rattle.floor.specs.Floor.{sizes_ok, cells, tabulate, byte, prepare_refusal, prepared, PreparePromise}
 use Rattle.floor.proofs.Boards.{length-tabulate}
@@ -16,7 +16,7 @@ use Rattle.rules.specs.Printer.{asked}
 use Rattle.trip_text.specs.declared.{Errand.Errand, Unheard.Unheard}
 use Rattle.trip_text.specs.declared.Unheard.TheVariants as unheard
 use Rattle.trip_text.specs.Parts.{mark}
-use Rattle.trip_text.specs.Heard.{Asked, errand_at, errand_in, heard_in, fronted, told, laid, ReadPromise}
+use Rattle.trip_text.specs.Heard.{Asked, errand_at, errand_in, heard_in, Tabled, fronted, told, laid, ReadPromise}
 use Rattle.trip_text.proofs.Pieces.{from_front}
 use Rattle.trip_text.proofs.Asking.{errand, aimed, plan_is}
 
@@ -59,3 +59,7 @@ unfolding told laid
 nothing_laid text plan known est (Ok e) u h is = absurd (cc)
 nothing_laid text plan known est (Err unheard.BadInput) u h is = record { answers = ap (λ (v : Unheard). told (Err v)) h.1 ∙ is; draws = refl; opens = refl; prepares = refl }
 nothing_laid text plan known est (Err (unheard.Refused r)) u h is = record { answers = ap (λ (v : Unheard). told (Err v)) h.1 ∙ is; draws = refl; opens = refl; prepares = refl }
+
+pub tabled_still : (answer : Result Errand Unheard) (u : Unheard) → IsErr answer × IsErrAnd answer (λ v. v ≡ u) → Tabled u → IfErr answer Tabled
+tabled_still (Ok e) u h t = tt
+tabled_still (Err v) u h t = subst Tabled (sym h.1) t

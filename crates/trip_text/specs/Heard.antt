@@ -1,7 +1,7 @@
 -- What is heard from a text, by document 01's definitions, and what is then written.
-use Rattle.std.specs.Prelude.{ℕ, zero, suc, ◌<◌, length, take, drop, Result, Ok, Err}
+use Rattle.std.specs.Prelude.{ℕ, zero, suc, ◌<◌, length, take, drop, Result, Ok, Err, ⊤}
 use mathlib.Core.{Path.◌≡◌, Bool.true, Bool.false, Bool.not, Bool.◌&&◌, Bool.◌||◌, List.List, List.◌++◌}
-use Rattle.floor.specs.Floor.{sizes_ok}
+use Rattle.floor.specs.{declared.Refusal.Refusal, Floor.sizes_ok, Floor.number}
 use Rattle.rules.specs.{Request.walk_refusal, Printer.field, Printer.line_at, Printer.first_line_ok, Printer.rows_ok, Printer.asked, Printer.printed}
 use Rattle.trip_text.specs.declared.{Errand.Errand, Unheard.Unheard}
 use Rattle.trip_text.specs.declared.Unheard.TheVariants as unheard
@@ -17,6 +17,16 @@ unfoldable pub told : Result Errand Unheard → Heard
 told (Ok errand) = Asked errand
 told (Err unheard.BadInput) = BadInput
 told (Err (unheard.Refused n)) = Refused n
+
+-- a number of the table of refusals
+pub record InTable (n : ℕ) : Type 0 where
+  pub refusal : Refusal
+  pub is : n ≡ number refusal
+
+-- where a text is refused, it is by such a number
+unfoldable pub Tabled : Unheard → Type 0
+Tabled unheard.BadInput = ⊤
+Tabled (unheard.Refused n) = InTable n
 
 -- what a first line asks for
 unfoldable pub errand_at : List ℕ → Errand

@@ -2,10 +2,10 @@
 // floor's plan.
 #![tactic(auto)]
 
-ghost use Rattle.std.specs.Prelude.{◌≡◌, true, false, ◌+◌, ◌≤◌, ◌<◌, length, take, drop, MatchOption, MatchResult, Err};
+ghost use Rattle.std.specs.Prelude.{◌≡◌, true, false, ◌+◌, ◌≤◌, ◌<◌, length, take, drop, MatchOption, MatchResult, IfErr, Err};
 ghost use Rattle.floor.specs.Floor.{sizes_ok, cells, tabulate, byte, prepared, refused};
 ghost use Rattle.rules.specs.Printer.{row_ok, asked};
-ghost use Rattle.trip_text.specs.Heard.{Asked, told, heard_in, fronted, ReadPromise};
+ghost use Rattle.trip_text.specs.Heard.{Asked, told, heard_in, Tabled, fronted, ReadPromise};
 ghost use Rattle.trip_text.specs.Scan.{index_of};
 ghost use Rattle.trip_text.specs.Parts.{number_in, in_place, said, errand_of, rest_ok, mark, errand_refusal};
 
@@ -193,7 +193,7 @@ impl<'a> Drawing<'a> {
 fn hear(text: &[u8]) -> Result<(Errand, Drawing<'_>), Unheard>
     ensures { MatchResult result (λ trip. (heard_in text.now ≡ Asked trip.0)
         × (trip.1.grid.floor ≡ trip.0.floor) × (trip.1.text.now ≡ drop (index_of 10 text.now + 1) text.now))
-        (λ unheard. told (Err unheard) ≡ heard_in text.now) }
+        (λ unheard. (told (Err unheard) ≡ heard_in text.now) × Tabled unheard) }
 {
     let (line, rest) = cut(text).ok_or(Unheard::BadInput)?;
     let errand = first_line(line).ok_or(Unheard::BadInput)?;
@@ -227,9 +227,35 @@ pub fn read(
     known: &mut [u8; 4096],
     est: &mut [u16; 4096],
 ) -> Result<Errand, Unheard>
-    ensures { ReadPromise text.now plan.old known.old est.old result plan.new known.new est.new }
+    ensures read_promise { ReadPromise text.now plan.old known.old est.old result plan.new known.new est.new }
+    ensures tabled { IfErr result Tabled }
 {
     let (errand, drawing) = hear(text)?;
     lay(errand, drawing, plan, known, est);
     Ok(errand)
+}
+
+#[cfg(test)]
+mod tests {
+    use super::*;
+
+    // What a text that is refused is refused by: sizes, cells, settings, a start on a rack.
+    #[test]
+    fn refusals_by_their_numbers(rt: HostRuntime) {
+        let mut plan = [0u8; 4096];
+        let mut known = [0u8; 4096];
+        let mut est = [0u16; 4096];
+        for (text, number) in [
+            ("65 1 0 0 1 1 1\n", 1),
+            ("2 1 2 0 1 1 1\n..\n", 3),
+            ("2 1 0 1 0 1 1\n..\n", 4),
+            ("2 1 0 1 1 1 1\n#.\n", 8),
+        ] {
+            let heard = read(text.as_bytes(), &mut plan, &mut known, &mut est);
+            assert_eq!(rt; heard, Err(Unheard::Refused(number)), "{text}");
+        }
+        let heard = read(b"2 1 0 1 1 1 1\n..\n", &mut plan, &mut known, &mut est);
+        assert!(rt; heard.is_ok());
+        assert_eq!(rt; est[0], 1);
+    }
 }
