@@ -26,7 +26,8 @@ pub struct Errand {
 #[derive(Clone, Copy, Debug, PartialEq, Eq)]
 pub enum Unheard {
     BadInput,
-    /// A number and no `Refusal`: the printer's `first` answers any number that it is handed, as `Line::Refused` shows any.
+    /// A number and no `Refusal`: the printer's `first` answers any number that it is handed, as `Line::Refused` shows any. (`read` answers
+    /// those of the table alone.)
     Refused(u8),
 }
 
